@@ -1,0 +1,5 @@
+pub mod Below
+pub mod Bits
+pub mod Masks
+pub mod Lists
+pub mod Look

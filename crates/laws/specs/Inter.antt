@@ -1,0 +1,217 @@
+-- Two channels: their units commute where neither writes what the other reads or writes, and so any interleaving of
+-- them ends as all of channel 1's units and then all of channel 2's.
+-- Assumes nothing.
+use mathlib.Core.Path.{_≡_, refl, sym, ap, _∙_, subst}
+use mathlib.Core.Logic.{_⊎_, inl, inr}
+use Prim.Native.Nat.{ℕ, zero, suc}
+use mathlib.Core.List.{List, [], _∷_}
+use Rattle.space.specs.declared.Place.{Place}
+use Rattle.space.specs.Space.{Spaces, get}
+use Rattle.space.specs.Laws.{SameSize, size-trans, size-sym, Inside, ext}
+use Rattle.laws.specs.Local.{Agree, Done, Local, Mover}
+
+-- ---- one channel
+
+-- the unit that these registers stand before keeps within the sets
+pub record Within {z : Spaces} {R : Type 0} (m : Mover z R) (Rd Wr : Place → Type 0) (r : R) : Type 0 where
+  pub reads : (l : Place) → m .Reads r l → Rd l
+  pub writes : (l : Place) → m .Writes r l → Wr l
+
+-- so do the next k units, done alone
+abbrev pub Keeps : {z : Spaces} {R : Type 0} → Mover z R → (Rd Wr : Place → Type 0) → ℕ → R → Spaces → Type 0
+Keeps m Rd Wr zero r s = Unit {0}
+Keeps m Rd Wr (suc k) r s = Within m Rd Wr r × Keeps m Rd Wr k ((m .act r s) .reg) ((m .act r s) .spaces)
+
+module _ {z : Spaces} {R : Type 0} (m : Mover z R) where
+  -- agreement on a set that holds the reads outlasts the unit
+  pub agree-after : (P : Place → Type 0) (r : R) (s t : Spaces) → ((l : Place) → m .Reads r l → P l) → SameSize s z → SameSize t z → Agree P s t
+      → Agree P ((m .act r s) .spaces) ((m .act r t) .spaces)
+  agree-after P r s t sub e f h l p = go (m .local .decides r l)
+    where
+      go : Dec (m .Writes r l) → get ((m .act r s) .spaces) l ≡ get ((m .act r t) .spaces) l
+      go (yes w) = m .local .wrote r s t e f (λ k b. h k (sub k b)) l w
+      go (no n) = m .local .keeps r s l e n ∙ h l p ∙ sym (m .local .keeps r t l f n)
+
+  pub keeps-agree : (Rd Wr : Place → Type 0) (k : ℕ) (r : R) (s t : Spaces) → SameSize s z → SameSize t z → Agree Rd s t
+      → Keeps m Rd Wr k r s → Keeps m Rd Wr k r t
+  keeps-agree Rd Wr zero r s t e f h x = tt
+  keeps-agree Rd Wr (suc k) r s t e f h x = (
+    x .0,
+    subst (λ (q : R). Keeps m Rd Wr k q ((m .act r t) .spaces)) (m .local .reg r s t e f (λ l b. h l (x .0 .reads l b)))
+        (keeps-agree Rd Wr k ((m .act r s) .reg) ((m .act r s) .spaces) ((m .act r t) .spaces)
+        (size-trans (m .local .sizes r s) e) (size-trans (m .local .sizes r t) f)
+        (agree-after Rd r s t (x .0 .reads) e f h) (x .1)),
+  )
+
+-- ---- the sets that each channel keeps within; neither's writes meet the other's
+
+pub record Sets : Type 1 where
+  pub R1 : Place → Type 0
+  pub W1 : Place → Type 0
+  pub R2 : Place → Type 0
+  pub W2 : Place → Type 0
+
+pub record Disjoint (q : Sets) : Type 0 where
+  pub w1w2 : (l : Place) → q .W1 l → ¬ (q .W2 l)
+  pub w1r2 : (l : Place) → q .W1 l → ¬ (q .R2 l)
+  pub r1w2 : (l : Place) → q .R1 l → ¬ (q .W2 l)
+
+-- ---- two channels
+
+pub record State (R₁ R₂ : Type 0) : Type 0 where
+  pub one : R₁
+  pub two : R₂
+  pub spaces : Spaces
+
+-- whose turn a step is; a give-back is nobody's
+pub data Turn : Type 0 where
+  first second back : Turn
+
+abbrev pub firsts : List Turn → ℕ
+firsts [] = zero
+firsts (first ∷ cs) = suc (firsts cs)
+firsts (second ∷ cs) = firsts cs
+firsts (back ∷ cs) = firsts cs
+
+abbrev pub seconds : List Turn → ℕ
+seconds [] = zero
+seconds (first ∷ cs) = seconds cs
+seconds (second ∷ cs) = suc (seconds cs)
+seconds (back ∷ cs) = seconds cs
+
+module _ {z : Spaces} {R₁ R₂ : Type 0} (m₁ : Mover z R₁) (m₂ : Mover z R₂) where
+  abbrev pub unit₁ : State R₁ R₂ → State R₁ R₂
+  unit₁ x = record { one = (m₁ .act (x .one) (x .spaces)) .reg; two = x .two; spaces = (m₁ .act (x .one) (x .spaces)) .spaces }
+
+  abbrev pub unit₂ : State R₁ R₂ → State R₁ R₂
+  unit₂ x = record { one = x .one; two = (m₂ .act (x .two) (x .spaces)) .reg; spaces = (m₂ .act (x .two) (x .spaces)) .spaces }
+
+  abbrev pub move : Turn → State R₁ R₂ → State R₁ R₂
+  move first x = unit₁ x
+  move second x = unit₂ x
+  move back x = x
+
+  -- the turns, in order
+  abbrev pub run : List Turn → State R₁ R₂ → State R₁ R₂
+  run [] x = x
+  run (c ∷ cs) x = run cs (move c x)
+
+  -- n units of one channel
+  abbrev pub units₁ : ℕ → State R₁ R₂ → State R₁ R₂
+  units₁ zero x = x
+  units₁ (suc n) x = units₁ n (unit₁ x)
+
+  abbrev pub units₂ : ℕ → State R₁ R₂ → State R₁ R₂
+  units₂ zero x = x
+  units₂ (suc n) x = units₂ n (unit₂ x)
+
+  -- the units that r₁ and r₂ stand before: neither writes what the other reads or writes
+  pub record Apart (r₁ : R₁) (r₂ : R₂) : Type 0 where
+    pub w1w2 : (l : Place) → m₁ .Writes r₁ l → ¬ (m₂ .Writes r₂ l)
+    pub w1r2 : (l : Place) → m₁ .Writes r₁ l → ¬ (m₂ .Reads r₂ l)
+    pub r1w2 : (l : Place) → m₁ .Reads r₁ l → ¬ (m₂ .Writes r₂ l)
+
+  pub commute : (x : State R₁ R₂) → SameSize (x .spaces) z → Apart (x .one) (x .two) → unit₂ (unit₁ x) ≡ unit₁ (unit₂ x)
+  commute x e a = λ i. record { one = one≡ i; two = two≡ i; spaces = spaces≡ i }
+    where
+      r₁ : R₁
+      r₁ = x .one
+
+      r₂ : R₂
+      r₂ = x .two
+
+      s : Spaces
+      s = x .spaces
+
+      s₁ : Spaces
+      s₁ = (m₁ .act r₁ s) .spaces
+
+      s₂ : Spaces
+      s₂ = (m₂ .act r₂ s) .spaces
+
+      e₁ : SameSize s₁ z
+      e₁ = size-trans (m₁ .local .sizes r₁ s) e
+
+      e₂ : SameSize s₂ z
+      e₂ = size-trans (m₂ .local .sizes r₂ s) e
+
+      -- neither changes what the other reads
+      reads₁ : Agree (m₁ .Reads r₁) s s₂
+      reads₁ l b = sym (m₂ .local .keeps r₂ s l e (a .r1w2 l b))
+
+      reads₂ : Agree (m₂ .Reads r₂) s₁ s
+      reads₂ l b = m₁ .local .keeps r₁ s l e (λ w. a .w1r2 l w b)
+
+      one≡ : (m₁ .act r₁ s) .reg ≡ (m₁ .act r₁ s₂) .reg
+      one≡ = m₁ .local .reg r₁ s s₂ e e₂ reads₁
+
+      two≡ : (m₂ .act r₂ s₁) .reg ≡ (m₂ .act r₂ s) .reg
+      two≡ = m₂ .local .reg r₂ s₁ s e₁ e reads₂
+
+      at : (l : Place) → Dec (m₁ .Writes r₁ l) → Dec (m₂ .Writes r₂ l) → get ((m₂ .act r₂ s₁) .spaces) l ≡ get ((m₁ .act r₁ s₂) .spaces) l
+      at l (yes w) d = m₂ .local .keeps r₂ s₁ l e₁ (a .w1w2 l w) ∙ m₁ .local .wrote r₁ s s₂ e e₂ reads₁ l w
+      at l (no n) (yes w) = m₂ .local .wrote r₂ s₁ s e₁ e reads₂ l w ∙ sym (m₁ .local .keeps r₁ s₂ l e₂ n)
+      at l (no n) (no k) =
+          m₂ .local .keeps r₂ s₁ l e₁ k ∙ m₁ .local .keeps r₁ s l e n ∙ sym (m₁ .local .keeps r₁ s₂ l e₂ n ∙ m₂ .local .keeps r₂ s l e k)
+
+      spaces≡ : (m₂ .act r₂ s₁) .spaces ≡ (m₁ .act r₁ s₂) .spaces
+      spaces≡ = ext ((m₂ .act r₂ s₁) .spaces) ((m₁ .act r₁ s₂) .spaces)
+          (size-trans (size-trans (m₂ .local .sizes r₂ s₁) e₁) (size-sym (size-trans (m₁ .local .sizes r₁ s₂) e₂)))
+          (λ l b. at l (m₁ .local .decides r₁ l) (m₂ .local .decides r₂ l))
+
+  -- ---- interleavings
+
+  -- the unit of this turn keeps within its channel's sets
+  abbrev pub Fits : Sets → Turn → State R₁ R₂ → Type 0
+  Fits q first x = Within m₁ (q .R1) (q .W1) (x .one)
+  Fits q second x = Within m₂ (q .R2) (q .W2) (x .two)
+  Fits q back x = Unit {0}
+
+  -- so does every unit of the interleaving, as it is run
+  abbrev pub Along : Sets → List Turn → State R₁ R₂ → Type 0
+  Along q [] x = Unit {0}
+  Along q (c ∷ cs) x = Fits q c x × Along q cs (move c x)
+
+  apart : (q : Sets) → Disjoint q → (r₁ : R₁) (r₂ : R₂) → Within m₁ (q .R1) (q .W1) r₁ → Within m₂ (q .R2) (q .W2) r₂ → Apart r₁ r₂
+  apart q d r₁ r₂ h k = record {
+    w1w2 = λ l a b. d .w1w2 l (h .writes l a) (k .writes l b);
+    w1r2 = λ l a b. d .w1r2 l (h .writes l a) (k .reads l b);
+    r1w2 = λ l a b. d .r1w2 l (h .reads l a) (k .writes l b);
+  }
+
+  -- a unit of channel 2 leaves what channel 1 reads
+  unit₂-agree : (q : Sets) → Disjoint q → (x : State R₁ R₂) → SameSize (x .spaces) z → Within m₂ (q .R2) (q .W2) (x .two)
+      → Agree (q .R1) ((unit₂ x) .spaces) (x .spaces)
+  unit₂-agree q d x e k l b = m₂ .local .keeps (x .two) (x .spaces) l e (λ w. d .r1w2 l b (k .writes l w))
+
+  size₁ : (x : State R₁ R₂) → SameSize (x .spaces) z → SameSize ((unit₁ x) .spaces) z
+  size₁ x e = size-trans (m₁ .local .sizes (x .one) (x .spaces)) e
+
+  size₂ : (x : State R₁ R₂) → SameSize (x .spaces) z → SameSize ((unit₂ x) .spaces) z
+  size₂ x e = size-trans (m₂ .local .sizes (x .two) (x .spaces)) e
+
+  -- what channel 1 does in the interleaving it also does alone
+  alone₁ : (q : Sets) → Disjoint q → (cs : List Turn) (x : State R₁ R₂) → SameSize (x .spaces) z → Along q cs x
+      → Keeps m₁ (q .R1) (q .W1) (firsts cs) (x .one) (x .spaces)
+  alone₁ q d [] x e h = tt
+  alone₁ q d (first ∷ cs) x e h = (h .0, alone₁ q d cs (unit₁ x) (size₁ x e) (h .1))
+  alone₁ q d (second ∷ cs) x e h =
+      keeps-agree m₁ (q .R1) (q .W1) (firsts cs) (x .one) ((unit₂ x) .spaces) (x .spaces) (size₂ x e) e
+      (unit₂-agree q d x e (h .0)) (alone₁ q d cs (unit₂ x) (size₂ x e) (h .1))
+  alone₁ q d (back ∷ cs) x e h = alone₁ q d cs x e (h .1)
+
+  -- a unit of channel 2 passes n units of channel 1
+  pass : (q : Sets) → Disjoint q → (n : ℕ) (x : State R₁ R₂) → SameSize (x .spaces) z → Within m₂ (q .R2) (q .W2) (x .two)
+      → Keeps m₁ (q .R1) (q .W1) n (x .one) (x .spaces) → units₁ n (unit₂ x) ≡ unit₂ (units₁ n x)
+  pass q d zero x e k h = refl
+  pass q d (suc n) x e k h =
+      ap (units₁ n) (sym (commute x e (apart q d (x .one) (x .two) (h .0) k))) ∙ pass q d n (unit₁ x) (size₁ x e) k (h .1)
+
+  pub interleave : (q : Sets) → Disjoint q → (cs : List Turn) (x : State R₁ R₂) → SameSize (x .spaces) z → Along q cs x
+      → run cs x ≡ units₂ (seconds cs) (units₁ (firsts cs) x)
+  interleave q d [] x e h = refl
+  interleave q d (first ∷ cs) x e h = interleave q d cs (unit₁ x) (size₁ x e) (h .1)
+  interleave q d (second ∷ cs) x e h =
+      interleave q d cs (unit₂ x) (size₂ x e) (h .1)
+      ∙ ap (units₂ (seconds cs)) (pass q d (firsts cs) x e (h .0) (alone₁ q d (second ∷ cs) x e h))
+  interleave q d (back ∷ cs) x e h = interleave q d cs x e (h .1)

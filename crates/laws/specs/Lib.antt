@@ -1,0 +1,10 @@
+pub mod Local
+pub mod Inter
+pub mod Fair
+pub mod Machine
+pub mod Op
+pub mod Search
+pub mod Block
+pub mod Funnel
+pub mod Pace
+pub mod Area

@@ -1,0 +1,4 @@
+pub mod Reasons
+pub mod Operation
+pub mod Mode
+pub mod Laws

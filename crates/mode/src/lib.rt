@@ -1,0 +1,271 @@
+// The mode register: its fields, and what each operation code means.
+ghost use mathlib.Core.Path.{_≡_};
+ghost use Prim.Native.Nat.{_<_};
+ghost use Rattle.mode.specs.Mode.{operationOf, requestModeOf, isFlipped, interruptOf, reloadOf, chainOf, matchControl, hasDack, isMasked, isRequested, withFlip, withMask, withRequest, keptHigh};
+ghost use Rattle.mode.specs.Operation.{carried, compares, searches, funnels, widthOfA, widthOfB};
+ghost use Rattle.mode.specs.Reasons.{some, enabledFor, triple};
+use space::Width;
+
+// Why an operation ends; also a triple of the mode, by which each reason is enabled or not.
+pub struct Reasons {
+    pub tc: bool,
+    pub mc: bool,
+    pub eop: bool,
+}
+
+impl Reasons {
+    pub fn any(self) -> bool
+        ensures { λ r. ⌜ r ≡ some self ⌝ }
+    {
+        self.tc | self.mc | self.eop
+    }
+
+    // A triple is enabled for one of the reasons.
+    pub fn enables(self, why: Reasons) -> bool
+        ensures { λ r. ⌜ r ≡ enabledFor self why ⌝ }
+    {
+        (self.tc & why.tc) | (self.mc & why.mc) | (self.eop & why.eop)
+    }
+}
+
+// The triple whose lowest bit, TC, is bit k.
+fn triple_at(low: u16, k: u16) -> Reasons
+    requires { ⌜ k < 14 ⌝ }
+    ensures { λ r. ⌜ r ≡ triple k low ⌝ }
+{
+    Reasons {
+        tc: (low >> k) & 1 == 1,
+        mc: (low >> (k + 1)) & 1 == 1,
+        eop: (low >> (k + 2)) & 1 == 1,
+    }
+}
+
+pub enum Operation {
+    Transfer(Width),
+    FunnelledTransfer,
+    TransferAndSearch(Width),
+    FunnelledTransferAndSearch,
+    Search(Width),
+    Flyby,
+    Illegal,
+}
+
+impl Operation {
+    // Flyby and the illegal codes are not carried.
+    pub fn is_carried(self) -> bool
+        ensures { λ r. ⌜ r ≡ carried self ⌝ }
+    {
+        match self {
+            Operation::Transfer(_) => true,
+            Operation::FunnelledTransfer => true,
+            Operation::TransferAndSearch(_) => true,
+            Operation::FunnelledTransferAndSearch => true,
+            Operation::Search(_) => true,
+            Operation::Flyby => false,
+            Operation::Illegal => false,
+        }
+    }
+
+    // Only searches and transfers-and-search compare.
+    pub fn is_comparing(self) -> bool
+        ensures { λ r. ⌜ r ≡ compares self ⌝ }
+    {
+        match self {
+            Operation::Transfer(_) => false,
+            Operation::FunnelledTransfer => false,
+            Operation::TransferAndSearch(_) => true,
+            Operation::FunnelledTransferAndSearch => true,
+            Operation::Search(_) => true,
+            Operation::Flyby => false,
+            Operation::Illegal => false,
+        }
+    }
+
+    // A search changes neither space, and steps the source only.
+    pub fn is_searching(self) -> bool
+        ensures { λ r. ⌜ r ≡ searches self ⌝ }
+    {
+        match self {
+            Operation::Transfer(_) => false,
+            Operation::FunnelledTransfer => false,
+            Operation::TransferAndSearch(_) => false,
+            Operation::FunnelledTransferAndSearch => false,
+            Operation::Search(_) => true,
+            Operation::Flyby => false,
+            Operation::Illegal => false,
+        }
+    }
+
+    // In funnelling A is the byte side and B the word side.
+    pub fn is_funnelling(self) -> bool
+        ensures { λ r. ⌜ r ≡ funnels self ⌝ }
+    {
+        match self {
+            Operation::Transfer(_) => false,
+            Operation::FunnelledTransfer => true,
+            Operation::TransferAndSearch(_) => false,
+            Operation::FunnelledTransferAndSearch => true,
+            Operation::Search(_) => false,
+            Operation::Flyby => false,
+            Operation::Illegal => false,
+        }
+    }
+
+    // The width of side A; of what is not carried it means nothing.
+    pub fn width_of_a(self) -> Width
+        ensures { λ r. ⌜ r ≡ widthOfA self ⌝ }
+    {
+        match self {
+            Operation::Transfer(w) => w,
+            Operation::FunnelledTransfer => Width::Byte,
+            Operation::TransferAndSearch(w) => w,
+            Operation::FunnelledTransferAndSearch => Width::Byte,
+            Operation::Search(w) => w,
+            Operation::Flyby => Width::Byte,
+            Operation::Illegal => Width::Byte,
+        }
+    }
+
+    // The width of side B.
+    pub fn width_of_b(self) -> Width
+        ensures { λ r. ⌜ r ≡ widthOfB self ⌝ }
+    {
+        match self {
+            Operation::Transfer(w) => w,
+            Operation::FunnelledTransfer => Width::Word,
+            Operation::TransferAndSearch(w) => w,
+            Operation::FunnelledTransferAndSearch => Width::Word,
+            Operation::Search(w) => w,
+            Operation::Flyby => Width::Byte,
+            Operation::Illegal => Width::Byte,
+        }
+    }
+}
+
+pub enum RequestMode {
+    Single,
+    DemandHold,
+    DemandRelease,
+    DemandInterleave,
+}
+
+// Bits 20-16 are bits 4-0 of the high word.
+pub struct Mode {
+    pub high: u16,
+    pub low: u16,
+}
+
+impl Mode {
+    pub fn operation(self) -> Operation
+        ensures { λ r. ⌜ r ≡ operationOf self ⌝ }
+    {
+        let code = self.low & 15;
+        match code {
+            0 => Operation::Transfer(Width::Word),
+            1 => Operation::Transfer(Width::Byte),
+            8 => Operation::FunnelledTransfer,
+            9 => Operation::FunnelledTransfer,
+            4 => Operation::TransferAndSearch(Width::Word),
+            5 => Operation::TransferAndSearch(Width::Byte),
+            12 => Operation::FunnelledTransferAndSearch,
+            13 => Operation::FunnelledTransferAndSearch,
+            14 => Operation::Search(Width::Word),
+            15 => Operation::Search(Width::Byte),
+            2 => Operation::Flyby,
+            3 => Operation::Flyby,
+            6 => Operation::Flyby,
+            7 => Operation::Flyby,
+            _ => Operation::Illegal,
+        }
+    }
+
+    pub fn is_flipped(self) -> bool
+        ensures { λ r. ⌜ r ≡ isFlipped self ⌝ }
+    {
+        (self.low >> 4) & 1 == 1
+    }
+
+    pub fn request_mode(self) -> RequestMode
+        ensures { λ r. ⌜ r ≡ requestModeOf self ⌝ }
+    {
+        let code = (self.low >> 5) & 3;
+        match code {
+            0 => RequestMode::Single,
+            1 => RequestMode::DemandHold,
+            2 => RequestMode::DemandRelease,
+            _ => RequestMode::DemandInterleave,
+        }
+    }
+
+    pub fn interrupts(self) -> Reasons
+        ensures { λ r. ⌜ r ≡ interruptOf self ⌝ }
+    {
+        triple_at(self.low, 7)
+    }
+
+    pub fn reloads(self) -> Reasons
+        ensures { λ r. ⌜ r ≡ reloadOf self ⌝ }
+    {
+        triple_at(self.low, 10)
+    }
+
+    pub fn chains(self) -> Reasons
+        ensures { λ r. ⌜ r ≡ chainOf self ⌝ }
+    {
+        triple_at(self.low, 13)
+    }
+
+    pub fn match_control(self) -> u16
+        ensures { λ r. ⌜ r ≡ matchControl self ⌝ }
+    {
+        self.high & 3
+    }
+
+    // Stored only.
+    pub fn has_dack(self) -> bool
+        ensures { λ r. ⌜ r ≡ hasDack self ⌝ }
+    {
+        (self.high >> 2) & 1 == 1
+    }
+
+    pub fn is_masked(self) -> bool
+        ensures { λ r. ⌜ r ≡ isMasked self ⌝ }
+    {
+        (self.high >> 3) & 1 == 1
+    }
+
+    // The software request.
+    pub fn is_requested(self) -> bool
+        ensures { λ r. ⌜ r ≡ isRequested self ⌝ }
+    {
+        (self.high >> 4) & 1 == 1
+    }
+
+    pub fn with_flip(mut self, set: bool) -> Mode
+        ensures { λ r. ⌜ r ≡ withFlip set self ⌝ }
+    {
+        self.low = self.low / 32 * 32 + facts::worth(set, 16) + self.low % 16;
+        self
+    }
+
+    pub fn with_mask(mut self, set: bool) -> Mode
+        ensures { λ r. ⌜ r ≡ withMask set self ⌝ }
+    {
+        self.high = self.high / 16 * 16 + facts::worth(set, 8) + self.high % 8;
+        self
+    }
+
+    pub fn with_request(mut self, set: bool) -> Mode
+        ensures { λ r. ⌜ r ≡ withRequest set self ⌝ }
+    {
+        self.high = self.high / 32 * 32 + facts::worth(set, 16) + self.high % 16;
+        self
+    }
+}
+
+// Mode high has five bits.
+pub fn kept_high(w: u16) -> u16
+    ensures { λ r. ⌜ r ≡ keptHigh w ⌝ }
+{
+    w & 31
+}

@@ -1,0 +1,61 @@
+-- Document 01, "Registers": the ports, channel 1/channel 2, hexadecimal. Assumes nothing.
+use Prim.Native.Nat.{ℕ, _*_, _/_, _%_}
+use mathlib.Core.List.{List, [], _∷_}
+use Rattle.facts.specs.Look.{look}
+use Rattle.port.specs.declared.Which.the-variants.{One, Two}
+use Rattle.port.specs.declared.Register.{Register}
+use Rattle.port.specs.declared.Register.the-variants.{CommandStatus, CurrentAUpper, CurrentALower, CurrentBUpper, CurrentBLower, BaseAUpper, BaseALower, BaseBUpper, BaseBLower, CurrentCount, BaseCount, Pattern, Mask, Save, Vector, ModeHigh, ModeLow, ChainUpper, ChainLower}
+use Rattle.port.specs.declared.Port.{Port}
+use Rattle.port.specs.declared.Port.the-variants.{MasterMode, Of, Nowhere}
+
+-- The pointer keeps bits 1 to 6 of the word written; the rest read 0.
+abbrev pub keptPointer : ℕ → ℕ
+keptPointer w = w / 2 % 64 * 2
+
+-- Command (write) and status (read); current A, current B, base A and base B, each upper and lower; current and base count;
+-- pattern; mask; vector; mode low; chain upper and lower.
+abbrev pub registers : List (ℕ × ℕ × Register)
+registers =
+    (0x2E, 0x2C, CommandStatus)
+    ∷ (0x1A, 0x18, CurrentAUpper)
+    ∷ (0x0A, 0x08, CurrentALower)
+    ∷ (0x12, 0x10, CurrentBUpper)
+    ∷ (0x02, 0x00, CurrentBLower)
+    ∷ (0x1E, 0x1C, BaseAUpper)
+    ∷ (0x0E, 0x0C, BaseALower)
+    ∷ (0x16, 0x14, BaseBUpper)
+    ∷ (0x06, 0x04, BaseBLower)
+    ∷ (0x32, 0x30, CurrentCount)
+    ∷ (0x36, 0x34, BaseCount)
+    ∷ (0x4A, 0x48, Pattern)
+    ∷ (0x4E, 0x4C, Mask)
+    ∷ (0x5A, 0x58, Vector)
+    ∷ (0x52, 0x50, ModeLow)
+    ∷ (0x26, 0x24, ChainUpper)
+    ∷ (0x22, 0x20, ChainLower)
+    ∷ []
+
+-- Read only: interrupt save and mode high.
+abbrev pub readOnly : List (ℕ × ℕ × Register)
+readOnly =
+    (0x2A, 0x28, Save)
+    ∷ (0x56, 0x54, ModeHigh)
+    ∷ []
+
+-- Each register at its two ports, before the further ones.
+abbrev pub both : List (ℕ × ℕ × Register) → List (ℕ × Port) → List (ℕ × Port)
+both [] more = more
+both (r ∷ rs) more = (r .0, Of One (r .2)) ∷ (r .1, Of Two (r .2)) ∷ both rs more
+
+-- Master mode 38 (both).
+abbrev pub readable : List (ℕ × Port)
+readable = (0x38, MasterMode) ∷ both registers (both readOnly [])
+
+abbrev pub writable : List (ℕ × Port)
+writable = (0x38, MasterMode) ∷ both registers []
+
+unfoldable pub readPort : ℕ → Port
+readPort pointer = look Nowhere pointer readable
+
+unfoldable pub writePort : ℕ → Port
+writePort pointer = look Nowhere pointer writable

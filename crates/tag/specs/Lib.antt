@@ -1,0 +1,3 @@
+pub mod Tag
+pub mod Address
+pub mod Laws
