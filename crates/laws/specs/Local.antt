@@ -2,11 +2,14 @@
 -- Assumes nothing.
 use mathlib.Core.Path.{_≡_, refl, sym, ap, _∙_, subst}
 use mathlib.Core.Logic.{_≢_, _⊎_, inl, inr}
-use Prim.Native.Nat.{ℕ}
+use Prim.Native.Nat.{ℕ, suc}
+use lib.ListN.{getD}
 use mathlib.Core.List.{List, [], _∷_, map}
 use Rattle.space.specs.declared.Place.{Place}
+use Rattle.space.specs.declared.Width.{Width}
+use Rattle.space.specs.declared.Width.the-variants.{Byte, Word}
 use Rattle.space.specs.Space.{Spaces, get, put}
-use Rattle.space.specs.Laws.{place-discrete, Inside, Beyond, SameSize, size-refl, size-sym, size-trans, size-put, inside-size, beyond-size, inside-or-beyond, inside-dec, get-put-same, get-put-other, get-beyond, get-out, put-lost}
+use Rattle.space.specs.Laws.{after, place-discrete, Inside, Beyond, SameSize, size-refl, size-sym, size-trans, size-put, inside-size, beyond-size, inside-or-beyond, inside-dec, get-put-same, get-put-other, get-beyond, get-out, put-lost}
 
 -- the place stands in the list
 abbrev pub In : Place → List Place → Type 0
@@ -71,6 +74,24 @@ puts (w ∷ ws) d s = puts ws d (put s (w .to) (w .what d))
 abbrev pub places : List Write → List Place
 places [] = []
 places (w ∷ ws) = w .to ∷ places ws
+
+-- the bytes of an access, a word's high half first, before further ones
+abbrev pub bytesAt : Width → Place → List Place → List Place
+bytesAt Byte p more = p ∷ more
+bytesAt Word p more = p ∷ after p ∷ more
+
+-- the writes to a list of places of what f gives, from number i on; and the same with the values in hand
+abbrev pub writing : ℕ → List Place → (List ℕ → List ℕ) → List Write
+writing i [] f = []
+writing i (p ∷ ps) f = record { to = p; what = λ d. getD (f d) i 255 } ∷ writing (suc i) ps f
+
+abbrev pub stores : ℕ → List Place → List ℕ → Spaces → Spaces
+stores i [] vs s = s
+stores i (p ∷ ps) vs s = stores (suc i) ps vs (put s p (getD vs i 255))
+
+pub puts-writing : (i : ℕ) (ps : List Place) (f : List ℕ → List ℕ) (d : List ℕ) (s : Spaces) → puts (writing i ps f) d s ≡ stores i ps (f d) s
+puts-writing i [] f d s = refl
+puts-writing i (p ∷ ps) f d s = puts-writing (suc i) ps f d (put s p (getD (f d) i 255))
 
 abbrev pub exec : {R : Type 0} → Prog R → R → Spaces → Done R
 exec p r s = record { reg = p .next r (gets s (p .reads r)); spaces = puts (p .writes r) (gets s (p .reads r)) s }

@@ -88,6 +88,13 @@ pub fn read(memory: &[u8], io: &[u8], p: Place, w: Width) -> u16
     }
 }
 
+// The datum of either width at a memory address: chaining reads memory.
+pub fn read_memory(memory: &[u8], a: MemoryAddress, w: Width) -> u16
+    ensures { λ r. ⌜ r ≡ valueIn w (now (memory .entry)) (a .0) ⌝ }
+{
+    value_at(memory, a.0, w)
+}
+
 // A datum of either width to a place.
 pub fn write(memory: &mut [u8], io: &mut [u8], p: Place, w: Width, v: u16)
     ensures { λ r. ⌜ spaces (now (memory .exit)) (now (io .exit)) ≡ written w (spaces (now (memory .entry)) (now (io .entry))) p v ⌝ }

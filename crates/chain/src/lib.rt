@@ -1,0 +1,174 @@
+// A chain's word: what it loads, and what the chain fetches after it.
+ghost use mathlib.Core.Path.{_≡_};
+ghost use Rattle.chain.specs.Chaining.{isChainAddress, advanced, nextOf, loadReload, loadFirstBy, loadLastBy, loadEntry, loadOf, settledBy, fetchedOf, droppedOf};
+use channel::Channel;
+use reload::Entry;
+
+// What is left of a chain's table, whether the second word of its next entry comes, and a new chain upper that waits for its lower.
+pub struct Progress {
+    pub left: u16,
+    pub second: bool,
+    pub upper: u16,
+}
+
+// The word of a chain that is fetched next.
+pub enum Stage {
+    Reload,
+    Entries(Progress),
+}
+
+// What follows a fetched word: more words, or the chain is complete.
+pub enum Next {
+    More(Progress),
+    Complete,
+}
+
+pub struct Loaded {
+    pub channel: Channel,
+    pub next: Next,
+}
+
+fn is_chain_address(e: Entry) -> bool
+    ensures { λ r. ⌜ r ≡ isChainAddress e ⌝ }
+{
+    match e {
+        Entry::CurrentA => false,
+        Entry::CurrentB => false,
+        Entry::CurrentCount => false,
+        Entry::BaseA => false,
+        Entry::BaseB => false,
+        Entry::BaseCount => false,
+        Entry::PatternAndMask => false,
+        Entry::Vector => false,
+        Entry::Mode => false,
+        Entry::ChainAddress => true,
+        Entry::Nothing => false,
+    }
+}
+
+fn advance(mut c: Channel) -> Channel
+    ensures { λ r. ⌜ r ≡ advanced c ⌝ }
+{
+    let chain = c.chain.fetched();
+    c.chain = chain;
+    c
+}
+
+fn what_next(left: u16) -> Next
+    ensures { λ r. ⌜ r ≡ nextOf left ⌝ }
+{
+    if left == 0 {
+        Next::Complete
+    } else {
+        Next::More(Progress {
+            left,
+            second: false,
+            upper: 0,
+        })
+    }
+}
+
+fn load_reload(w: u16, c: Channel) -> Loaded
+    ensures { λ r. ⌜ r ≡ loadReload w c ⌝ }
+{
+    Loaded {
+        channel: advance(c),
+        next: what_next(w % 1024),
+    }
+}
+
+// The old chain address is used and read until both words of the new one are there.
+fn load_first(chains: bool, e: Entry, left: u16, w: u16, c: Channel) -> Loaded
+    ensures { λ r. ⌜ r ≡ loadFirstBy chains e left w c ⌝ }
+{
+    let next = advance(c);
+    if chains {
+        return Loaded {
+            channel: next,
+            next: Next::More(Progress {
+                left,
+                second: true,
+                upper: tag::kept_chain(w),
+            }),
+        };
+    }
+    Loaded {
+        channel: next.load(e, false, w),
+        next: Next::More(Progress {
+            left,
+            second: true,
+            upper: 0,
+        }),
+    }
+}
+
+// A new chain address takes the old one's place unstepped.
+fn load_last(chains: bool, e: Entry, p: Progress, w: u16, mut c: Channel) -> Loaded
+    ensures { λ r. ⌜ r ≡ loadLastBy chains e p w c ⌝ }
+{
+    let next = what_next(reload::rest(p.left));
+    if chains {
+        c.chain.upper = p.upper;
+        c.chain.lower = w;
+        return Loaded { channel: c, next };
+    }
+    Loaded {
+        channel: advance(c).load(e, p.second, w),
+        next,
+    }
+}
+
+fn load_entry(e: Entry, p: Progress, w: u16, c: Channel) -> Loaded
+    ensures { λ r. ⌜ r ≡ loadEntry e p w c ⌝ }
+{
+    let chains = is_chain_address(e);
+    if e.has_two() & !p.second {
+        return load_first(chains, e, p.left, w, c);
+    }
+    load_last(chains, e, p, w, c)
+}
+
+fn load(stage: Stage, w: u16, c: Channel) -> Loaded
+    ensures { λ r. ⌜ r ≡ loadOf stage w c ⌝ }
+{
+    match stage {
+        Stage::Reload => load_reload(w, c),
+        Stage::Entries(p) => load_entry(reload::next_entry(p.left), p, w, c),
+    }
+}
+
+// The last fetch of a chain clears the stored change.
+fn settle(next: Next, mut c: Channel) -> Channel
+    ensures { λ r. ⌜ r ≡ settledBy next c ⌝ }
+{
+    match next {
+        Next::More(_) => c,
+        Next::Complete => {
+            c.line.change = false;
+            c
+        }
+    }
+}
+
+// A channel after its chain's next word; it has no chain pending any more.
+pub fn fetch(stage: Stage, w: u16, mut c: Channel) -> Loaded
+    ensures { λ r. ⌜ r ≡ fetchedOf stage w c ⌝ }
+{
+    c.pending = false;
+    let l = load(stage, w, c);
+    let next = l.next;
+    Loaded {
+        channel: settle(next, l.channel),
+        next,
+    }
+}
+
+// EOP with a chain fetch: the chain is dropped, CA and NAC are set.
+pub fn drop_chain(mut c: Channel) -> Channel
+    ensures { λ r. ⌜ r ≡ droppedOf c ⌝ }
+{
+    c.pending = false;
+    c.status.ca = true;
+    c.status.nac = true;
+    c
+}

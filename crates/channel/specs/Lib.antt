@@ -1,0 +1,4 @@
+pub mod Set
+pub mod Request
+pub mod Ending
+pub mod Loading

@@ -1,0 +1,361 @@
+// A channel: its registers, its request, its end, and the loading of one word.
+ghost use mathlib.Core.Path.{_≡_};
+ghost use Rattle.mode.specs.Mode.{isRequested};
+ghost use Rattle.channel.specs.Request.{arrived, requests, isCandidate};
+ghost use Rattle.channel.specs.Ending.{flagsOf, isTwo, saved, withIp, flagged, interrupted, finished, endOf, movedBy, spent, unended, afterUnit};
+ghost use Rattle.channel.specs.Loading.{addressWith, withA, withB, compareWith, modeWith, chainWith, loaded};
+use mode::Mode;
+use mode::Reasons;
+use mode::RequestMode;
+use port::Which;
+use reload::Entry;
+use status::Flags;
+use tag::Address;
+use tag::Set;
+use unit::Moved;
+
+pub struct Interrupt {
+    pub cie: bool,
+    pub ip: bool,
+    pub sip: bool,
+    pub vector: u8,
+    pub save: u16,
+}
+
+// The status bits that are kept; the word's other bits are read from elsewhere.
+pub struct Status {
+    pub ca: bool,
+    pub nac: bool,
+    pub mch: bool,
+    pub mcl: bool,
+    pub why: Reasons,
+}
+
+// The request line: its level, and an inactive-to-active change that is stored and unspent.
+pub struct Line {
+    pub active: bool,
+    pub change: bool,
+}
+
+pub struct Channel {
+    pub current: Set,
+    pub base: Set,
+    pub pattern: u16,
+    pub mask: u16,
+    pub mode: Mode,
+    pub chain: Address,
+    pub interrupt: Interrupt,
+    pub status: Status,
+    pub line: Line,
+    pub pending: bool,
+}
+
+// A channel after an end, and whether the end puts a chain under way.
+pub struct Ended {
+    pub channel: Channel,
+    pub chains: bool,
+}
+
+fn has_arrived(mode: RequestMode, line: Line) -> bool
+    ensures { λ r. ⌜ r ≡ arrived mode line ⌝ }
+{
+    match mode {
+        RequestMode::Single => line.change,
+        RequestMode::DemandHold => line.active,
+        RequestMode::DemandRelease => line.active,
+        RequestMode::DemandInterleave => line.active,
+    }
+}
+
+pub fn is_requesting(mode: Mode, line: Line) -> bool
+    ensures { λ r. ⌜ r ≡ requests mode line ⌝ }
+{
+    mode.is_requested() | (!mode.is_masked() & has_arrived(mode.request_mode(), line))
+}
+
+fn is_two(which: Which) -> bool
+    ensures { λ r. ⌜ r ≡ isTwo which ⌝ }
+{
+    match which {
+        Which::One => false,
+        Which::Two => true,
+    }
+}
+
+fn address_with(second: bool, w: u16, a: Address) -> Address
+    ensures { λ r. ⌜ r ≡ addressWith second w a ⌝ }
+{
+    if second {
+        Address {
+            upper: a.upper,
+            lower: w,
+        }
+    } else {
+        Address {
+            upper: tag::kept_tag(w),
+            lower: a.lower,
+        }
+    }
+}
+
+fn with_a(second: bool, w: u16, mut s: Set) -> Set
+    ensures { λ r. ⌜ r ≡ withA second w s ⌝ }
+{
+    let a = address_with(second, w, s.a);
+    s.a = a;
+    s
+}
+
+fn with_b(second: bool, w: u16, mut s: Set) -> Set
+    ensures { λ r. ⌜ r ≡ withB second w s ⌝ }
+{
+    let b = address_with(second, w, s.b);
+    s.b = b;
+    s
+}
+
+impl Channel {
+    pub fn is_candidate(self) -> bool
+        ensures { λ r. ⌜ r ≡ isCandidate self ⌝ }
+    {
+        let requesting = is_requesting(self.mode, self.line);
+        self.pending | (requesting & ((!self.status.nac & !self.interrupt.sip) & !self.status.ca))
+    }
+
+    // The flags of the status and save words; WFB is the controller's to say.
+    pub fn flags(self, wfb: bool) -> Flags
+        ensures { λ r. ⌜ r ≡ flagsOf wfb self ⌝ }
+    {
+        Flags {
+            cie: self.interrupt.cie,
+            ip: self.interrupt.ip,
+            ca: self.status.ca,
+            nac: self.status.nac,
+            wfb,
+            sip: self.interrupt.sip,
+            masked: self.mode.is_masked(),
+            line: self.line.active,
+            mch: self.status.mch,
+            mcl: self.status.mcl,
+            mc: self.status.why.mc,
+            eop: self.status.why.eop,
+            tc: self.status.why.tc,
+        }
+    }
+
+    pub fn with_save(mut self, which: Which) -> Channel
+        ensures { λ r. ⌜ r ≡ saved which self ⌝ }
+    {
+        let save = self.flags(false).save(is_two(which), self.interrupt.vector);
+        self.interrupt.save = save;
+        self
+    }
+
+    // IP is set, and save loaded.
+    pub fn with_ip(mut self, which: Which) -> Channel
+        ensures { λ r. ⌜ r ≡ withIp which self ⌝ }
+    {
+        self.interrupt.ip = true;
+        self.with_save(which)
+    }
+
+    // An end writes its reasons, and clears the software bit and the stored change.
+    fn flag(mut self, why: Reasons) -> Channel
+        ensures { λ r. ⌜ r ≡ flagged why self ⌝ }
+    {
+        let mode = self.mode.with_request(false);
+        let mut status = self.status;
+        status.why = why;
+        self.status = status;
+        self.mode = mode;
+        self.line.change = false;
+        self
+    }
+
+    fn interrupt_for(self, which: Which, why: Reasons) -> Channel
+        ensures { λ r. ⌜ r ≡ interrupted which why self ⌝ }
+    {
+        if self.mode.interrupts().enables(why) {
+            if self.interrupt.ip {
+                let mut next = self;
+                next.interrupt.sip = true;
+                next
+            } else {
+                self.with_ip(which)
+            }
+        } else {
+            self
+        }
+    }
+
+    // What an end does but for a chain: reload, or NAC.
+    pub fn finish(mut self, why: Reasons) -> Channel
+        ensures { λ r. ⌜ r ≡ finished why self ⌝ }
+    {
+        let reloads = self.mode.reloads().enables(why);
+        let chains = self.mode.chains().enables(why);
+        if reloads {
+            let base = self.base;
+            self.current = base;
+            return self;
+        }
+        if chains {
+            return self;
+        }
+        self.status.nac = true;
+        self
+    }
+
+    pub fn end(self, which: Which, why: Reasons) -> Ended
+        ensures { λ r. ⌜ r ≡ endOf which why self ⌝ }
+    {
+        let next = self.flag(why).interrupt_for(which, why);
+        if next.interrupt.sip {
+            return Ended {
+                channel: next,
+                chains: false,
+            };
+        }
+        let chains = next.mode.chains().enables(why);
+        Ended {
+            channel: next.finish(why),
+            chains,
+        }
+    }
+
+    // What the unit made of the current registers and of MCH and MCL.
+    fn with_moved(mut self, m: Moved) -> Channel
+        ensures { λ r. ⌜ r ≡ movedBy m self ⌝ }
+    {
+        let set = m.set;
+        self.current = set;
+        self.status.mch = m.compared.mch;
+        self.status.mcl = m.compared.mcl;
+        self
+    }
+
+    // Single spends its software bit or else its stored change.
+    fn spend(mut self) -> Channel
+        ensures { λ r. ⌜ r ≡ spent (isRequested (self .mode)) self ⌝ }
+    {
+        if self.mode.is_requested() {
+            let mode = self.mode.with_request(false);
+            self.mode = mode;
+        } else {
+            self.line.change = false;
+        }
+        self
+    }
+
+    fn unend(self) -> Channel
+        ensures { λ r. ⌜ r ≡ unended self ⌝ }
+    {
+        let mode = self.mode.request_mode();
+        match mode {
+            RequestMode::Single => self.spend(),
+            RequestMode::DemandHold => self,
+            RequestMode::DemandRelease => self,
+            RequestMode::DemandInterleave => self,
+        }
+    }
+
+    // The channel after a unit, ended or not.
+    pub fn after_unit(self, which: Which, eop: bool, m: Moved) -> Ended
+        ensures { λ r. ⌜ r ≡ afterUnit which eop m self ⌝ }
+    {
+        let why = Reasons {
+            tc: m.tc,
+            mc: m.compared.met,
+            eop,
+        };
+        let next = self.with_moved(m);
+        if why.any() {
+            next.end(which, why)
+        } else {
+            Ended {
+                channel: next.unend(),
+                chains: false,
+            }
+        }
+    }
+
+    fn with_compare(mut self, second: bool, w: u16) -> Channel
+        ensures { λ r. ⌜ r ≡ compareWith second w self ⌝ }
+    {
+        if second {
+            self.mask = w;
+        } else {
+            self.pattern = w;
+        }
+        self
+    }
+
+    fn with_mode(mut self, second: bool, w: u16) -> Channel
+        ensures { λ r. ⌜ r ≡ modeWith second w self ⌝ }
+    {
+        if second {
+            self.mode.low = w;
+        } else {
+            let high = mode::kept_high(w);
+            self.mode.high = high;
+        }
+        self
+    }
+
+    fn with_chain(mut self, second: bool, w: u16) -> Channel
+        ensures { λ r. ⌜ r ≡ chainWith second w self ⌝ }
+    {
+        if second {
+            self.chain.lower = w;
+        } else {
+            let upper = tag::kept_chain(w);
+            self.chain.upper = upper;
+        }
+        self
+    }
+
+    // The first or only word, or the second, of an entry.
+    pub fn load(mut self, e: Entry, second: bool, w: u16) -> Channel
+        ensures { λ r. ⌜ r ≡ loaded e second w self ⌝ }
+    {
+        match e {
+            Entry::CurrentA => {
+                let set = with_a(second, w, self.current);
+                self.current = set;
+                self
+            }
+            Entry::CurrentB => {
+                let set = with_b(second, w, self.current);
+                self.current = set;
+                self
+            }
+            Entry::CurrentCount => {
+                self.current.count = w;
+                self
+            }
+            Entry::BaseA => {
+                let set = with_a(second, w, self.base);
+                self.base = set;
+                self
+            }
+            Entry::BaseB => {
+                let set = with_b(second, w, self.base);
+                self.base = set;
+                self
+            }
+            Entry::BaseCount => {
+                self.base.count = w;
+                self
+            }
+            Entry::PatternAndMask => self.with_compare(second, w),
+            Entry::Vector => {
+                let vector = (w % 256) as u8;
+                self.interrupt.vector = vector;
+                self
+            }
+            Entry::Mode => self.with_mode(second, w),
+            Entry::ChainAddress => self.with_chain(second, w),
+            Entry::Nothing => self,
+        }
+    }
+}

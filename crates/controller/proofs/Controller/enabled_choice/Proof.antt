@@ -1,0 +1,23 @@
+use borrow.Author.Needs.{needs}
+use Rattle.controller.proofs.Laws.{rule-2, rule-3, rule-4, rule-5}
+use Rattle.controller.proofs.Controller.enabled_choice.Statement.{statement}
+use Rattle.controller.proofs.Controller.enabled_choice.Tie as tie
+
+pub enabled-choice-spec : {M : Type 1} → statement M
+enabled-choice-spec =
+    tie.close
+    (tie.spec
+    (λ c. search needs)
+    (λ c κs. search needs)
+    (λ c κs. search needs)
+    (λ c κs. search needs)
+    (λ c. search needs)
+    (λ c. rule-3 (c .before .before .before .before .args .self) (c .before .enum-told .given .1) (c .if1 .taken))
+    (λ c. search needs)
+    (λ c κs. search needs)
+    (λ c κs. search needs)
+    (λ c. search needs)
+    (λ c κs. search needs)
+    (λ c. rule-2 (c .before .before .before .before .before .before .before .args .self) _ _ _ _ _ (c .before .before .before .before .chain .given .1) (c .before .before .channel .ensures) (c .before .is-odd .ensures) (c .fetch-choice .ensures))
+    (λ c. rule-4 (c .before .before .before .before .before .before .before .before .before .args .self) _ _ _ (c .before .before .before .before .before .before .enum-told .given .1) (c .before .before .before .before .before .if1 .left) (c .before .before .before .bus .given .1) (c .before .channel2 .ensures) (c .keeper-choice .ensures))
+    (λ c. rule-5 (c .before .before .before .before .before .before .before .args .self) _ (c .before .before .before .before .enum-told .given .1) (c .before .before .before .if1 .left) (c .before .enum-told2 .given .1) (c .candidate-choice .ensures)))

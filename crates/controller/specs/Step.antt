@@ -1,0 +1,126 @@
+-- Document 01, "Which step comes next" and "Ending": what a step does, by what was chosen. Assumes nothing.
+use Prim.Native.Nat.{ℕ}
+use mathlib.Core.Bool.{Bool, true, false, _||_}
+use mathlib.Core.List.{List}
+use Rattle.port.specs.declared.Which.{Which}
+use Rattle.space.specs.Space.{Spaces}
+use Rattle.mode.specs.declared.Reasons.{Reasons}
+use Rattle.mode.specs.declared.RequestMode.{RequestMode}
+use Rattle.mode.specs.declared.RequestMode.the-variants.{Single, DemandHold, DemandRelease, DemandInterleave}
+use Rattle.mode.specs.Mode.{requestModeOf}
+use Rattle.mode.specs.Reasons.{some}
+use Rattle.unit.specs.declared.Work.{Work}
+use Rattle.unit.specs.declared.Moved.{Moved}
+use Rattle.unit.specs.Unit.{worked}
+use Rattle.channel.specs.declared.Channel.{Channel}
+use Rattle.channel.specs.declared.Ended.{Ended}
+use Rattle.channel.specs.Ending.{reasonsOf, endOf, afterUnit}
+use Rattle.chain.specs.declared.Stage.{Stage}
+use Rattle.chain.specs.declared.Stage.the-variants.{Reload}
+use Rattle.controller.specs.declared.Chain.{Chain}
+use Rattle.controller.specs.declared.Chain.the-variants.{Of}
+use Rattle.controller.specs.declared.Bus.the-variants.{Free, Kept}
+use Rattle.controller.specs.declared.Served.the-variants.{Last}
+use Rattle.controller.specs.declared.Control.{Control}
+use Rattle.controller.specs.declared.Controller.{Controller}
+use Rattle.controller.specs.declared.Stepped.{Stepped}
+use Rattle.controller.specs.declared.Choice.{Choice}
+use Rattle.controller.specs.declared.Choice.the-variants.{Disabled, Refused, Fetch, GiveBack, Unit, Hold, Release, Idle}
+use Rattle.controller.specs.declared.Back.{Back}
+use Rattle.controller.specs.declared.Back.the-variants.{Note, Bus}
+use Rattle.controller.specs.declared.Answer.{Answer}
+use Rattle.controller.specs.declared.Answer.the-variants as answer
+use Rattle.controller.specs.Set.{_⟨control≔_⟩, _⟨bus≔_⟩, _⟨note≔_⟩}
+use Rattle.controller.specs.Controller.{at, with}
+use Rattle.controller.specs.Choice.{isInterleaved, choice}
+use Rattle.controller.specs.Fetching.{fetchOf}
+
+-- All that a step leaves: the next state and the answer, and both spaces.
+pub record Outcome : Type 0 where
+  pub stepped : Stepped
+  pub spaces : Spaces
+
+abbrev pub outcome : Stepped → Spaces → Outcome
+outcome r z = record { stepped = r; spaces = z }
+
+abbrev pub says : Controller → Answer → Stepped
+says u a = record { state = u; answer = a }
+
+-- ---- a unit
+
+abbrev pub workOf : Channel → Work
+workOf c = record {
+  set = c .current;
+  mode = c .mode;
+  pattern = c .pattern;
+  mask = c .mask;
+  kept = record { mch = c .status .mch; mcl = c .status .mcl; met = false };
+}
+
+-- An end puts a chain under way if chaining is enabled for a reason.
+abbrev pub chainAfter : Bool → Which → Chain → Chain
+chainAfter true w chain = Of w Reload
+chainAfter false w chain = chain
+
+-- After an unended unit both dedicated modes keep the bus; single does not. Interleave does not keep it, and with CPU interleave set
+-- leaves a give-back note. An end frees the bus. Served last is the channel of the latest unit.
+abbrev pub unendedControl : RequestMode → Bool → Which → Control → Control
+unendedControl Single cpu w k = record { chain = k .chain; bus = Free; note = k .note; served = Last w }
+unendedControl DemandHold cpu w k = record { chain = k .chain; bus = Kept w; note = k .note; served = Last w }
+unendedControl DemandRelease cpu w k = record { chain = k .chain; bus = Kept w; note = k .note; served = Last w }
+unendedControl DemandInterleave cpu w k = record { chain = k .chain; bus = Free; note = cpu || k .note; served = Last w }
+
+abbrev pub endedControl : Bool → Which → Control → Control
+endedControl chains w k = record { chain = chainAfter chains w (k .chain); bus = Free; note = k .note; served = Last w }
+
+abbrev pub controlBy : Bool → RequestMode → Bool → Bool → Which → Control → Control
+controlBy true m cpu chains w k = endedControl chains w k
+controlBy false m cpu chains w k = unendedControl m cpu w k
+
+unfoldable pub unitOf : Which → Bool → Controller → Moved → Stepped
+unitOf w eop u m =
+    let c = at w u in
+    let e = afterUnit w eop m c in
+    let why = reasonsOf m eop in
+    says
+    (with w (e .channel) (u ⟨control≔ controlBy (some why) (requestModeOf (c .mode)) (isInterleaved (u .master)) (e .chains) w (u .control) ⟩))
+    (answer.Unit w why)
+
+-- ---- holding
+
+-- EOP given while holding ends the operation with EOP and does no unit.
+abbrev pub eopAlone : Reasons
+eopAlone = record { tc = false; mc = false; eop = true }
+
+abbrev pub holdBy : Bool → Which → Controller → Ended → Stepped
+holdBy true w u e =
+    says
+    (with w (e .channel) (u ⟨control≔ record { chain = chainAfter (e .chains) w (u .control .chain); bus = Free; note = u .control .note; served = u .control .served } ⟩))
+    (answer.Ended w)
+holdBy false w u e = says u (answer.Holding w)
+
+unfoldable pub holdOf : Which → Bool → Controller → Stepped
+holdOf w eop u = holdBy eop w u (endOf w eopAlone (at w u))
+
+-- ---- given back
+
+-- A give-back note: clear it. Any other mode than demand hold gives the bus back.
+abbrev pub backOf : Back → Controller → Stepped
+backOf Note u = says (u ⟨control≔ u .control ⟨note≔ false ⟩ ⟩) (answer.GivenBack Note)
+backOf Bus u = says (u ⟨control≔ u .control ⟨bus≔ Free ⟩ ⟩) (answer.GivenBack Bus)
+
+-- ---- a step
+
+-- A refused step changes nothing, EOP or not.
+unfoldable pub performOf : Choice → Bool → Controller → Spaces → Outcome
+performOf Disabled eop u z = outcome (says u answer.Disabled) z
+performOf (Refused n) eop u z = outcome (says u (answer.Refused n)) z
+performOf (Fetch w stage) eop u z = outcome (fetchOf w stage eop u (z .memory)) z
+performOf GiveBack eop u z = outcome (backOf Note u) z
+performOf (Unit w) eop u z = let k = worked (workOf (at w u)) z in outcome (unitOf w eop u (k .moved)) (k .spaces)
+performOf (Hold w) eop u z = outcome (holdOf w eop u) z
+performOf Release eop u z = outcome (backOf Bus u) z
+performOf Idle eop u z = outcome (says u answer.Idle) z
+
+unfoldable pub stepOf : Bool → Controller → Spaces → Outcome
+stepOf eop u z = performOf (choice u) eop u z
