@@ -1,8 +1,10 @@
--- Document 01, "Points on both sides": the points that are proved, of the rules themselves, by computation.
+-- Document 01, "Points on both sides": the points that are proved, as a single table under one claim, of the rules themselves.
 -- Assumes nothing.
-use mathlib.Core.Path.{_≡_, refl}
-use mathlib.Core.Bool.{true, false}
+use mathlib.Core.Path.{_≡_, refl, sym, ap, _∙_}
+use mathlib.Core.Bool.{Bool, true, false}
+use Prim.Native.Nat.{ℕ}
 use lib.Bits.{bitAnd, bitXor}
+use Rattle.facts.specs.Look.{look}
 use Rattle.space.specs.declared.Width.the-variants.{Byte, Word}
 use Rattle.space.specs.declared.Direction.the-variants.{Up, Down}
 use Rattle.space.specs.Stepping.{steppedBy}
@@ -10,7 +12,44 @@ use Rattle.space.specs.Laws.{memoryAt, ioAt}
 use Rattle.moving.specs.Count.{fewer, terminal}
 use Rattle.moving.specs.Comparison.{comparison}
 use Rattle.moving.specs.Funnel.{highFirst, joined}
-use Rattle.reload.specs.Reload.{wordsOf, total, entries}
+use Rattle.tag.specs.declared.Set.{Set}
+use Rattle.tag.specs.Address.{placeOf, steppedOn}
+use Rattle.mode.specs.Mode.{operationOf}
+use Rattle.reload.specs.Reload.{wordsOf}
+use Rattle.unit.specs.declared.Work.{Work}
+use Rattle.unit.specs.declared.Moved.{Moved}
+use Rattle.unit.specs.Unit.{compared, steppedSet, movedOf}
+use Rattle.command.specs.Command.{commandOf}
+use Rattle.port.specs.declared.Which.the-variants.{One}
+use Rattle.port.specs.Ports.{writePort}
+use Rattle.channel.specs.declared.Channel.{Channel}
+use Rattle.channel.specs.Set.{_⟨interrupt≔_⟩, _⟨cie≔_⟩}
+use Rattle.channel.specs.Ending.{withIp}
+use Rattle.controller.specs.declared.Controller.{Controller}
+use Rattle.controller.specs.Controller.{at, with}
+use Rattle.registers.specs.Commands.{takes, isBusy, commandedBy, commanded}
+use Rattle.registers.specs.Writing.{writeBy, writeOf}
+
+-- the count and TC that a unit leaves of a count
+abbrev pub counted : ℕ → Work → Work
+counted n w = record { set = record { a = w .set .a; b = w .set .b; count = n }; mode = w .mode; pattern = w .pattern; mask = w .mask; kept = w .kept }
+
+-- a word search, stop on match, pattern 1200h, mask 00FFh
+abbrev pub sought : Set → Work
+sought s = record {
+  set = s;
+  mode = record { high = 2; low = 0xE };
+  pattern = 0x1200;
+  mask = 0x00FF;
+  kept = record { mch = false; mcl = false; met = false };
+}
+
+abbrev pub five : Set
+five = record { a = record { upper = 0x0040; lower = 0x0200 }; b = record { upper = 0; lower = 0 }; count = 5 }
+
+-- channel 1 with CIE and IP set, save loaded
+abbrev pub interrupting : Controller → Controller
+interrupting u = with One (withIp One (at One u ⟨interrupt≔ at One u .interrupt ⟨cie≔ true ⟩ ⟩)) u
 
 pub record Points : Type 0 where
   -- Reload 0282h takes 6 words; 03FFh 18; FC00h 1.
@@ -21,15 +60,52 @@ pub record Points : Type 0 where
   pub p4 : steppedBy Up Byte (memoryAt 0xFFFFFF) ≡ memoryAt 0
   pub p5 : steppedBy Down Word (memoryAt 0) ≡ memoryAt 0xFFFFFE
   pub p6 : steppedBy Up Byte (ioAt 0x10) ≡ ioAt 0x12
-  -- Count 0000 becomes FFFFh without TC; count 1 becomes 0 with TC.
-  pub p7 : (fewer 0 ≡ 0xFFFF) × (terminal (fewer 0) ≡ false)
-  pub p8 : (fewer 1 ≡ 0) × (terminal (fewer 1) ≡ true)
+  -- Count 0000 becomes FFFFh without TC; count 1 becomes 0 with TC: by any unit.
+  pub p7 : (w : Work) (datum : ℕ) → (movedOf (counted 0 w) datum .set .count ≡ 0xFFFF) × (movedOf (counted 0 w) datum .tc ≡ false)
+  pub p8 : (w : Work) (datum : ℕ) → (movedOf (counted 1 w) datum .set .count ≡ 0) × (movedOf (counted 1 w) datum .tc ≡ true)
   -- Bytes 12h, 34h funnel to 1234h with B up, to 3412h with B down.
   pub p9 : joined (highFirst 0x0000) 0x12 0x34 ≡ 0x1234
   pub p10 : joined (highFirst 0x0008) 0x12 0x34 ≡ 0x3412
   -- Pattern 1200h, mask 00FFh, stop on match, words 1300h, 12AAh: first no, second MC; count 5 is left at 3.
-  pub p11 : (comparison Word 0x1300 0x1200 0x00FF 2 .met ≡ false) × (comparison Word 0x12AA 0x1200 0x00FF 2 .met ≡ true) × (fewer (fewer 5) ≡ 3)
+  pub p11 : (movedOf (sought five) 0x1300 .compared .met ≡ false)
+      × (movedOf (sought (movedOf (sought five) 0x1300 .set)) 0x12AA .compared .met ≡ true)
+      × (movedOf (sought (movedOf (sought five) 0x1300 .set)) 0x12AA .set .count ≡ 3)
+      × (movedOf (sought (movedOf (sought five) 0x1300 .set)) 0x12AA .tc ≡ false)
+  -- Command 36h at 2E sets CIE and IP of channel 1; 20h changes nothing.
+  pub p12 : (u : Controller) → u .pointer ≡ 0x2E → isBusy u ≡ false → (writeOf 0x36 u ≡ takes (interrupting u)) × (writeOf 0x20 u ≡ takes u)
+
+at-2E : (w : ℕ) (u : Controller) → u .pointer ≡ 0x2E → writeOf w u ≡ commanded (commandOf w) One u
+unfolding writeOf writePort look
+at-2E w u e = ap (λ (p : ℕ). writeBy (writePort p) w u) e
+
+same-one : (u : Controller) → with One (at One u) u ≡ u
+unfolding with at
+same-one u = refl
+
+obeyed : (w : ℕ) (u : Controller) → isBusy u ≡ false → commandedBy false (isBusy u) (commandOf w) One u ≡ commandedBy false false (commandOf w) One u
+obeyed w u e = λ i. commandedBy false (e i) (commandOf w) One u
+
+set-both : (u : Controller) → isBusy u ≡ false → commanded (commandOf 0x36) One u ≡ takes (interrupting u)
+unfolding commanded commandOf look
+set-both u e = obeyed 0x36 u e
+
+set-none : (u : Controller) → isBusy u ≡ false → commanded (commandOf 0x20) One u ≡ takes u
+unfolding commanded commandOf look
+set-none u e = obeyed 0x20 u e ∙ ap takes (same-one u)
 
 pub points : Points
-unfolding wordsOf comparison
-points = record { p1 = refl; p2 = refl; p3 = refl; p4 = refl; p5 = refl; p6 = refl; p7 = (refl, refl); p8 = (refl, refl); p9 = refl; p10 = refl; p11 = (refl, refl, refl) }
+unfolding wordsOf movedOf steppedSet compared comparison operationOf look
+points = record {
+  p1 = refl;
+  p2 = refl;
+  p3 = refl;
+  p4 = refl;
+  p5 = refl;
+  p6 = refl;
+  p7 = λ w datum. (refl, refl);
+  p8 = λ w datum. (refl, refl);
+  p9 = refl;
+  p10 = refl;
+  p11 = (refl, refl, refl, refl);
+  p12 = λ u e b. (at-2E 0x36 u e ∙ set-both u b, at-2E 0x20 u e ∙ set-none u b);
+}

@@ -1,3 +1,4 @@
 pub mod Reading
 pub mod Commands
 pub mod Writing
+pub mod Answers

@@ -103,6 +103,12 @@ pub fn read(u: Controller) -> Reading
     }
 }
 
+pub fn read_pointer(u: Controller) -> u16
+    ensures { λ r. ⌜ r ≡ u .pointer ⌝ }
+{
+    u.pointer
+}
+
 pub fn write_pointer(mut u: Controller, w: u16) -> Controller
     ensures { λ r. ⌜ r ≡ pointed w u ⌝ }
 {

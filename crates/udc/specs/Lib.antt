@@ -1,3 +1,4 @@
 pub mod Lines
 pub mod Acknowledge
 pub mod Run
+pub mod Answers

@@ -1,0 +1,339 @@
+// What a line of the console asks for.
+mod text;
+
+use text::Number;
+
+// The most bytes that are lent, and that are looked at.
+const MEMORY: u32 = 1048576;
+
+const IO: u32 = 65536;
+
+const PEEK: u32 = 65536;
+
+pub enum Space {
+    Memory,
+    Io,
+}
+
+// The host's calls, with what they are given.
+pub enum Call {
+    Reset,
+    WritePointer(u16),
+    ReadPointer,
+    Write(u16),
+    Read,
+    Set(u16, u16),
+    Get(u16),
+    Line(u8, bool),
+    Acknowledge,
+    Step(bool),
+    Run(u32),
+}
+
+// What is asked over the bytes that are lent. The bytes of a poke stand beside it.
+pub enum Request {
+    Nothing,
+    Unreadable,
+    TooLarge,
+    Make(Call),
+    Poke(Space, u32, usize),
+    Peek(Space, u32, u32),
+    State,
+    Help,
+}
+
+pub enum Input {
+    Lend(Space, u32),
+    Ask(Request),
+}
+
+// The first word of a line.
+enum Name {
+    Reset,
+    Pointer,
+    Write,
+    Read,
+    Set,
+    Get,
+    Line,
+    Acknowledge,
+    Step,
+    Run,
+    Memory,
+    Io,
+    Poke,
+    Peek,
+    State,
+    Help,
+    Unknown,
+}
+
+fn name_of_port_call(s: &[u8]) -> Name {
+    if text::same(s, b"reset") {
+        return Name::Reset;
+    }
+    if text::same(s, b"pointer") {
+        return Name::Pointer;
+    }
+    if text::same(s, b"write") {
+        return Name::Write;
+    }
+    if text::same(s, b"read") {
+        return Name::Read;
+    }
+    if text::same(s, b"set") {
+        return Name::Set;
+    }
+    if text::same(s, b"get") {
+        return Name::Get;
+    }
+    name_of_other_call(s)
+}
+
+fn name_of_other_call(s: &[u8]) -> Name {
+    if text::same(s, b"line") {
+        return Name::Line;
+    }
+    if text::same(s, b"acknowledge") {
+        return Name::Acknowledge;
+    }
+    if text::same(s, b"step") {
+        return Name::Step;
+    }
+    if text::same(s, b"run") {
+        return Name::Run;
+    }
+    name_at_the_bench(s)
+}
+
+fn name_at_the_bench(s: &[u8]) -> Name {
+    if text::same(s, b"memory") {
+        return Name::Memory;
+    }
+    if text::same(s, b"io") {
+        return Name::Io;
+    }
+    if text::same(s, b"poke") {
+        return Name::Poke;
+    }
+    if text::same(s, b"peek") {
+        return Name::Peek;
+    }
+    if text::same(s, b"state") {
+        return Name::State;
+    }
+    if text::same(s, b"help") {
+        return Name::Help;
+    }
+    Name::Unknown
+}
+
+fn low_word(n: u32) -> u16 {
+    (n % 65536) as u16
+}
+
+fn low_byte(n: u32) -> u8 {
+    (n % 256) as u8
+}
+
+// What a line asks whose last word was read, if nothing follows it.
+fn last(more: &[u8], r: Request) -> Request {
+    if more.len() == 0 {
+        return r;
+    }
+    Request::Unreadable
+}
+
+fn pointer(s: &[u8]) -> Request {
+    if s.len() == 0 {
+        return Request::Make(Call::ReadPointer);
+    }
+    let Number::Of(w) = text::word(text::first(s)) else {
+        return Request::Unreadable;
+    };
+    last(
+        text::rest(s),
+        Request::Make(Call::WritePointer(low_word(w))),
+    )
+}
+
+fn write(s: &[u8]) -> Request {
+    let Number::Of(w) = text::word(text::first(s)) else {
+        return Request::Unreadable;
+    };
+    last(text::rest(s), Request::Make(Call::Write(low_word(w))))
+}
+
+fn set(s: &[u8]) -> Request {
+    let Number::Of(p) = text::word(text::first(s)) else {
+        return Request::Unreadable;
+    };
+    let s = text::rest(s);
+    let Number::Of(w) = text::word(text::first(s)) else {
+        return Request::Unreadable;
+    };
+    last(
+        text::rest(s),
+        Request::Make(Call::Set(low_word(p), low_word(w))),
+    )
+}
+
+fn get(s: &[u8]) -> Request {
+    let Number::Of(p) = text::word(text::first(s)) else {
+        return Request::Unreadable;
+    };
+    last(text::rest(s), Request::Make(Call::Get(low_word(p))))
+}
+
+fn line_level(c: u8, s: &[u8]) -> Request {
+    let level = text::first(s);
+    if text::same(level, b"active") {
+        return last(text::rest(s), Request::Make(Call::Line(c, true)));
+    }
+    if text::same(level, b"inactive") {
+        return last(text::rest(s), Request::Make(Call::Line(c, false)));
+    }
+    Request::Unreadable
+}
+
+fn line(s: &[u8]) -> Request {
+    let Number::Of(c) = text::channel(text::first(s)) else {
+        return Request::Unreadable;
+    };
+    line_level(low_byte(c), text::rest(s))
+}
+
+fn step(s: &[u8]) -> Request {
+    if s.len() == 0 {
+        return Request::Make(Call::Step(false));
+    }
+    if text::same(text::first(s), b"eop") {
+        return last(text::rest(s), Request::Make(Call::Step(true)));
+    }
+    Request::Unreadable
+}
+
+fn run(s: &[u8]) -> Request {
+    let Number::Of(n) = text::decimal(text::first(s)) else {
+        return Request::Unreadable;
+    };
+    last(text::rest(s), Request::Make(Call::Run(n)))
+}
+
+fn limit(space: Space) -> u32 {
+    match space {
+        Space::Memory => MEMORY,
+        Space::Io => IO,
+    }
+}
+
+fn lend(space: Space, s: &[u8]) -> Input {
+    let Number::Of(n) = text::decimal(text::first(s)) else {
+        return Input::Ask(Request::Unreadable);
+    };
+    if text::rest(s).len() != 0 {
+        return Input::Ask(Request::Unreadable);
+    }
+    if limit(space) < n {
+        return Input::Ask(Request::TooLarge);
+    }
+    Input::Lend(space, n)
+}
+
+enum Named {
+    In(Space),
+    Nowhere,
+}
+
+fn space_named(s: &[u8]) -> Named {
+    if text::same(s, b"memory") {
+        return Named::In(Space::Memory);
+    }
+    if text::same(s, b"io") {
+        return Named::In(Space::Io);
+    }
+    Named::Nowhere
+}
+
+// How many bytes the words of a text are, each put in its place.
+fn bytes_of(s: &[u8], bytes: &mut [u8; 64]) -> Number {
+    let mut at = 0;
+    let mut n: usize = 0;
+    while at < s.len() {
+        if n == 64 {
+            return Number::Unreadable;
+        }
+        let left = &s[at..];
+        let Number::Of(b) = text::byte(text::first(left)) else {
+            return Number::Unreadable;
+        };
+        bytes[n] = low_byte(b);
+        at += text::past_first(left);
+        n += 1;
+    }
+    Number::Of(n as u32)
+}
+
+fn poke(s: &[u8], bytes: &mut [u8; 64]) -> Request {
+    let Named::In(space) = space_named(text::first(s)) else {
+        return Request::Unreadable;
+    };
+    let s = text::rest(s);
+    let Number::Of(at) = text::address(text::first(s)) else {
+        return Request::Unreadable;
+    };
+    let Number::Of(n) = bytes_of(text::rest(s), bytes) else {
+        return Request::Unreadable;
+    };
+    if n == 0 {
+        return Request::Unreadable;
+    }
+    Request::Poke(space, at, n as usize)
+}
+
+fn peek(s: &[u8]) -> Request {
+    let Named::In(space) = space_named(text::first(s)) else {
+        return Request::Unreadable;
+    };
+    let s = text::rest(s);
+    let Number::Of(at) = text::address(text::first(s)) else {
+        return Request::Unreadable;
+    };
+    let s = text::rest(s);
+    let Number::Of(n) = text::decimal(text::first(s)) else {
+        return Request::Unreadable;
+    };
+    if PEEK < n {
+        return last(text::rest(s), Request::TooLarge);
+    }
+    last(text::rest(s), Request::Peek(space, at, n))
+}
+
+// A line of words; a poke's bytes are put in theirs.
+pub fn read_line(typed: &[u8], bytes: &mut [u8; 64]) -> Input {
+    let s = text::code(typed);
+    if s.len() == 0 {
+        return Input::Ask(Request::Nothing);
+    }
+    let args = text::rest(s);
+    let name = name_of_port_call(text::first(s));
+    match name {
+        Name::Reset => Input::Ask(last(args, Request::Make(Call::Reset))),
+        Name::Pointer => Input::Ask(pointer(args)),
+        Name::Write => Input::Ask(write(args)),
+        Name::Read => Input::Ask(last(args, Request::Make(Call::Read))),
+        Name::Set => Input::Ask(set(args)),
+        Name::Get => Input::Ask(get(args)),
+        Name::Line => Input::Ask(line(args)),
+        Name::Acknowledge => Input::Ask(last(args, Request::Make(Call::Acknowledge))),
+        Name::Step => Input::Ask(step(args)),
+        Name::Run => Input::Ask(run(args)),
+        Name::Memory => lend(Space::Memory, args),
+        Name::Io => lend(Space::Io, args),
+        Name::Poke => Input::Ask(poke(args, bytes)),
+        Name::Peek => Input::Ask(peek(args)),
+        Name::State => Input::Ask(last(args, Request::State)),
+        Name::Help => Input::Ask(last(args, Request::Help)),
+        Name::Unknown => Input::Ask(Request::Unreadable),
+    }
+}

@@ -1,0 +1,290 @@
+// The points of document 01 that are run, and the data sheet's initialization program and reload table (Figures 23 and 24), each
+// compared with what it should be.
+use channel::Channel;
+use controller::Answer;
+use controller::Controller;
+use libc::STDOUT_FILENO;
+use port::Which;
+use registers::Reading;
+use registers::Writing;
+use registers::Written;
+use space::Direction;
+use space::IoAddress;
+use space::MemoryAddress;
+use space::Place;
+use space::Width;
+use tag::Address;
+
+// The reload table of Figure 24, from address 1020h on, as its reload word 03FFh takes it.
+const TABLE: [u16; 18] = [
+    0x03FF,
+    0x0000,
+    0x1F00,
+    0x0000,
+    0x1060,
+    0x0010,
+    0x0000,
+    0x1F00,
+    0x0000,
+    0x1080,
+    0x0012,
+    0x0000,
+    0xFFFF,
+    0x0001,
+    0x0000,
+    0x8020,
+    0x0000,
+    0x1020,
+];
+
+// A chain table at 100h for a search of two words: current A 000200h, count 2, pattern 1234h, software request, stop on match.
+const SEARCH: [u16; 8] = [
+    0x028A,
+    0x0040,
+    0x0200,
+    0x0002,
+    0x1234,
+    0x0000,
+    0x0012,
+    0x002E,
+];
+
+// The 16 words of I/O that the channel of Figure 24 moves.
+const FRAME: [u16; 16] = [
+    0x00CA,
+    0x01CB,
+    0x02CC,
+    0x03CD,
+    0x04CE,
+    0x05CF,
+    0x06D0,
+    0x07D1,
+    0x08D2,
+    0x09D3,
+    0x0AD4,
+    0x0BD5,
+    0x0CD6,
+    0x0DD7,
+    0x0ED8,
+    0x0FD9,
+];
+
+fn say(what: &[u8], right: bool) {
+    io::write_all(STDOUT_FILENO, what);
+    if right {
+        io::write_all(STDOUT_FILENO, b": as it should be\n");
+    } else {
+        io::write_all(STDOUT_FILENO, b": WRONG\n");
+    }
+}
+
+fn write_at(u: Controller, pointer: u16, w: u16) -> Written {
+    registers::write(w, registers::write_pointer(u, pointer))
+}
+
+fn state_after(u: Controller, pointer: u16, w: u16) -> Controller {
+    let r = write_at(u, pointer, w);
+    r.state
+}
+
+fn is_refused(a: Writing, n: u8) -> bool {
+    match a {
+        Writing::Refused(m) => m == n,
+        Writing::Taken => false,
+    }
+}
+
+fn is_write_refused(u: Controller, pointer: u16, w: u16, n: u8) -> bool {
+    let r = write_at(u, pointer, w);
+    let a = r.answer;
+    is_refused(a, n)
+}
+
+fn is_read_refused(u: Controller, n: u8) -> bool {
+    let a = registers::read(u);
+    match a {
+        Reading::Refused(m) => m == n,
+        Reading::Value(_) => false,
+    }
+}
+
+// Pointer 00FFh reads 007Eh, and its register is refused by 1 in both directions.
+fn is_pointer_right() -> bool {
+    let u = registers::write_pointer(udc::fresh(), 0x00FF);
+    (registers::read_pointer(u) == 0x007E)
+        & is_read_refused(u, 1)
+        & is_write_refused(u, 0x00FF, 0, 1)
+}
+
+fn put_word(memory: &mut [u8], io: &mut [u8], p: Place, w: u16) {
+    space::write(memory, io, p, Width::Word, w);
+}
+
+fn is_first(w: Which) -> bool {
+    match w {
+        Which::One => true,
+        Which::Two => false,
+    }
+}
+
+// A unit of channel 1 with just these end reasons.
+fn is_unit(a: Answer, tc: bool, mc: bool) -> bool {
+    match a {
+        Answer::Refused(_) => false,
+        Answer::Disabled => false,
+        Answer::Idle => false,
+        Answer::GivenBack(_) => false,
+        Answer::Holding(_) => false,
+        Answer::Fetched(_) => false,
+        Answer::Dropped(_) => false,
+        Answer::Unit(w, why) => is_first(w) & (why.tc == tc) & (why.mc == mc) & !why.eop,
+        Answer::Ended(_) => false,
+    }
+}
+
+fn is_idle(a: Answer) -> bool {
+    match a {
+        Answer::Refused(_) => false,
+        Answer::Disabled => false,
+        Answer::Idle => true,
+        Answer::GivenBack(_) => false,
+        Answer::Holding(_) => false,
+        Answer::Fetched(_) => false,
+        Answer::Dropped(_) => false,
+        Answer::Unit(_, _) => false,
+        Answer::Ended(_) => false,
+    }
+}
+
+// Figure 23 with its own numbers: master mode, chain upper and lower, Start Chain.
+fn started(master: u16, lower: u16) -> Controller {
+    let a = state_after(udc::fresh(), 0x38, master);
+    let b = state_after(a, 0x26, 0x0000);
+    let c = state_after(b, 0x22, lower);
+    state_after(c, 0x2C, 0x00A0)
+}
+
+// Words from a place on.
+fn store_words(memory: &mut [u8], io: &mut [u8], from: Place, words: &[u16]) {
+    let mut at = from;
+    let mut i = 0;
+    while i < words.len() {
+        put_word(memory, io, at, words[i]);
+        at = at.stepped(Direction::Up, Width::Word);
+        i += 1;
+    }
+}
+
+fn has_words(memory: &[u8], io: &[u8], from: Place, words: &[u16]) -> bool {
+    let mut right = true;
+    let mut at = from;
+    let mut i = 0;
+    while i < words.len() {
+        right = right & (space::read(memory, io, at, Width::Word) == words[i]);
+        at = at.stepped(Direction::Up, Width::Word);
+        i += 1;
+    }
+    right
+}
+
+// Count 2 with the match second ends with TC and MC: 8 words of a chain, a unit that goes on, and the one that ends.
+fn is_match_right() -> bool {
+    let mut bytes = [0u8; 1024];
+    let mut none = [0u8; 2];
+    let memory: &mut [u8] = &mut bytes;
+    let io: &mut [u8] = &mut none;
+    store_words(memory, io, Place::Memory(MemoryAddress(0x0100)), &SEARCH);
+    put_word(memory, io, Place::Memory(MemoryAddress(0x0200)), 0x1111);
+    put_word(memory, io, Place::Memory(MemoryAddress(0x0202)), 0x1234);
+    let r = udc::run(started(1, 0x0100), 9, memory, io);
+    let first = r.answer;
+    let u = r.state;
+    let s = u.step(false, memory, io);
+    let second = s.answer;
+    (r.steps == 9) & is_unit(first, false, false) & is_unit(second, true, true)
+}
+
+fn is_address(a: Address, upper: u16, lower: u16) -> bool {
+    (a.upper == upper) & (a.lower == lower)
+}
+
+// What the table of Figure 24 loads.
+fn is_loaded(c: Channel) -> bool {
+    is_address(c.current.a, 0x0000, 0x1F00)
+        & is_address(c.current.b, 0x0000, 0x1060)
+        & (c.current.count == 0x0010)
+        & is_address(c.base.a, 0x0000, 0x1F00)
+        & is_address(c.base.b, 0x0000, 0x1080)
+        & (c.base.count == 0x0012)
+        & (c.pattern == 0x0000)
+        & (c.mask == 0xFFFF)
+        & (c.interrupt.vector == 0x01)
+        & (c.mode.high == 0x0000)
+        & (c.mode.low == 0x8020)
+        & is_address(c.chain, 0x0000, 0x1020)
+}
+
+// The 18 words of the table are fetched, the note given back, and the channel waits for its line.
+fn is_chain_right(u: Controller, memory: &mut [u8], io: &mut [u8]) -> bool {
+    let r = udc::run(u, 100, memory, io);
+    let a = r.answer;
+    let next = r.state;
+    (r.steps == 19) & is_idle(a) & is_loaded(next.one)
+}
+
+// With its line active the channel moves 16 words of I/O in demand hold and ends by TC.
+fn is_block_right(u: Controller, memory: &mut [u8], io: &mut [u8]) -> bool {
+    let r = udc::run(u, 19, memory, io);
+    let waiting = r.state;
+    let l = udc::line(1, true, waiting);
+    let active = l.state;
+    let moved = udc::run(active, 16, memory, io);
+    let a = moved.answer;
+    let c = moved.state;
+    is_unit(a, true, false)
+        & (moved.steps == 16)
+        & c.one.status.nac
+        & has_words(memory, io, Place::Io(IoAddress(0x1060)), &FRAME)
+}
+
+fn is_figure_right(block: bool) -> bool {
+    let mut bytes = [0u8; 8192];
+    let mut ports = [0u8; 8192];
+    let memory: &mut [u8] = &mut bytes;
+    let io: &mut [u8] = &mut ports;
+    store_words(memory, io, Place::Memory(MemoryAddress(0x1020)), &TABLE);
+    store_words(memory, io, Place::Io(IoAddress(0x1F00)), &FRAME);
+    let u = started(0x0007, 0x1020);
+    if block {
+        is_block_right(u, memory, io)
+    } else {
+        is_chain_right(u, memory, io)
+    }
+}
+
+fn main() {
+    say(
+        b"C0h at 2E is 3",
+        is_write_refused(udc::fresh(), 0x2E, 0x00C0, 3),
+    );
+    say(
+        b"26h at 2C is 4",
+        is_write_refused(udc::fresh(), 0x2C, 0x0026, 4),
+    );
+    say(
+        b"pointer 00FFh reads 007Eh and its register is 1",
+        is_pointer_right(),
+    );
+    say(
+        b"count 2 with the match second ends with TC and MC",
+        is_match_right(),
+    );
+    say(
+        b"Figures 23 and 24: the chain loads what the table says",
+        is_figure_right(false),
+    );
+    say(
+        b"Figures 23 and 24: the block arrives and ends by TC",
+        is_figure_right(true),
+    );
+}

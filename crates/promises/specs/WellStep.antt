@@ -1,0 +1,335 @@
+-- Promise D1d: a step keeps the controller well formed, and so does a run. Assumes nothing.
+use mathlib.Core.Path.{_≡_, refl, sym, ap, _∙_, subst}
+use mathlib.Core.Bool.{Bool, true, false, not, cond, _&&_, _||_, true≢false}
+use mathlib.Core.List.{List}
+use Prim.Native.Nat.{ℕ, zero, suc}
+use lib.Dec.{eqb, ltb}
+use Rattle.space.specs.declared.Width.the-variants.{Word}
+use Rattle.space.specs.Space.{Spaces, valueIn}
+use Rattle.port.specs.declared.Which.{Which}
+use Rattle.port.specs.declared.Which.the-variants.{One, Two}
+use Rattle.tag.specs.Address.{number, isOdd}
+use Rattle.mode.specs.declared.Reasons.{Reasons}
+use Rattle.mode.specs.declared.RequestMode.{RequestMode}
+use Rattle.mode.specs.declared.RequestMode.the-variants.{Single, DemandHold, DemandRelease, DemandInterleave}
+use Rattle.mode.specs.Mode.{requestModeOf}
+use Rattle.mode.specs.Reasons.{some}
+use Rattle.unit.specs.declared.Moved.{Moved}
+use Rattle.unit.specs.Unit.{worked, unitRefusal}
+use Rattle.channel.specs.declared.Channel.{Channel}
+use Rattle.channel.specs.declared.Ended.{Ended}
+use Rattle.channel.specs.Set.{_⟨pending≔_⟩}
+use Rattle.channel.specs.Request.{requests, isCandidate}
+use Rattle.channel.specs.Ending.{endOf, movedBy, unendedBy, unended, reasonsOf, afterBy, afterUnit}
+use Rattle.chain.specs.declared.Stage.{Stage}
+use Rattle.chain.specs.declared.Stage.the-variants.{Reload, Entries}
+use Rattle.chain.specs.declared.Next.{Next}
+use Rattle.chain.specs.declared.Next.the-variants.{More, Complete}
+use Rattle.chain.specs.Chaining.{fetchedOf, droppedOf}
+use Rattle.controller.specs.declared.Chain.{Chain}
+use Rattle.controller.specs.declared.Chain.the-variants.{NoChain, Of}
+use Rattle.controller.specs.declared.Bus.{Bus}
+use Rattle.controller.specs.declared.Bus.the-variants.{Free, Kept}
+use Rattle.controller.specs.declared.Served.{Served}
+use Rattle.controller.specs.declared.Served.the-variants as served
+use Rattle.controller.specs.declared.Turn.{Turn}
+use Rattle.controller.specs.declared.Turn.the-variants.{Nobodys, Whose}
+use Rattle.controller.specs.declared.Control.{Control}
+use Rattle.controller.specs.declared.Controller.{Controller}
+use Rattle.controller.specs.declared.Choice.{Choice}
+use Rattle.controller.specs.declared.Choice.the-variants as chosen
+use Rattle.controller.specs.declared.Answer.the-variants as answer
+use Rattle.controller.specs.Controller.{at, with}
+use Rattle.controller.specs.Step.{workOf, Outcome, outcome, says, chainAfter, unendedControl, controlBy, unitOf, eopAlone, holdOf, performOf, stepOf}
+use Rattle.controller.specs.Set.{_⟨control≔_⟩, _⟨chain≔_⟩, _⟨bus≔_⟩, _⟨note≔_⟩}
+use Rattle.controller.specs.Choice.{isEnabled, isInterleaved, fetchBy, unitBy, keeperBy, keeper, beginBy, begins, turnBy, interleaves, candidateBy, candidate, choiceBy, choice}
+use Rattle.controller.specs.Fetching.{controlFetched, fetchOf}
+use Rattle.udc.specs.Run.{stops, next, runFrom, runOf}
+use Rattle.promises.specs.WellFormed.{Tidy, TidyStage, ClearFlags, Settled, Clear, Software, TidyHalf, Owner, Keeper, Owned, WellFormed}
+use Rattle.promises.specs.WellChannel.{no, clear-settled}
+use Rattle.promises.specs.WellEnding.{EndedWell, ended-well, moved-tidy, moved-clear, unended-tidy, unended-clear, TidyNext, Finished, fetched-well, dropped-sound}
+use Rattle.promises.specs.WellCalls.{sound-at, at-with, placed, controlled, free-owned, loose-owned, chain-owned, kept-owned}
+
+-- ---- what the next step's choice presumes
+
+-- a fetch: the bus is free, and the channel is clear but for the chain pending, which the fetch takes
+record Fetching (s : Stage) (bus : Bus) (note on : Bool) (c : Channel) : Type 0 where
+  free : bus ≡ Free
+  owner : Owner note on (c ⟨pending≔ false ⟩)
+  stage : TidyStage s
+
+-- a unit, or holding: no chain is under way
+record Working (chain : Chain) (note on : Bool) (c : Channel) : Type 0 where
+  no-chain : chain ≡ NoChain
+  owner : Owner note on c
+
+abbrev Meant : Choice → Chain → Bus → Bool → Bool → (Which → Channel) → Type 0
+Meant chosen.Disabled chain bus note on c = Unit {0}
+Meant (chosen.Refused n) chain bus note on c = Unit {0}
+Meant (chosen.Fetch w s) chain bus note on c = Fetching s bus note on (c w)
+Meant chosen.GiveBack chain bus note on c = (chain ≡ NoChain) × (bus ≡ Free)
+Meant (chosen.Unit w) chain bus note on c = Working chain note on (c w)
+Meant (chosen.Hold w) chain bus note on c = Working chain note on (c w)
+Meant chosen.Release chain bus note on c = chain ≡ NoChain
+Meant chosen.Idle chain bus note on c = Unit {0}
+
+unpending : {sip ca nac pending : Bool} → ClearFlags sip ca nac pending → ClearFlags sip ca nac false
+unpending h = record { no-sip = h .no-sip; no-ca = h .no-ca; no-nac = h .no-nac; no-pending = refl }
+
+-- a candidate without a chain pending has NAC, SIP and CA clear
+able : (p r n s a : Bool) → p || (r && ((not n && not s) && not a)) ≡ true → p ≡ false → ClearFlags s a n p
+able true r n s a e q = no q refl
+able false true false false false e q = record { no-sip = refl; no-ca = refl; no-nac = refl; no-pending = refl }
+able false true false false true e q = no refl e
+able false true false true a e q = no refl e
+able false true true s a e q = no refl e
+able false false n s a e q = no refl e
+
+module _ (chain : Chain) (bus : Bus) (note on : Bool) (c : Which → Channel) where
+  fetch-meant : (s : Stage) (odd : Bool) (w : Which) → Fetching s bus note on (c w) → Meant (fetchBy s odd w) chain bus note on c
+  fetch-meant Reload true w h = tt
+  fetch-meant Reload false w h = h
+  fetch-meant (Entries p) odd w h = h
+
+  unit-meant : (n : ℕ) (w : Which) → Working chain note on (c w) → Meant (unitBy n w) chain bus note on c
+  unit-meant n w h = go (eqb n 0)
+    where
+      go : (b : Bool) → Meant (cond b (chosen.Unit w) (chosen.Refused n)) chain bus note on c
+      go true = h
+      go false = tt
+
+  keeper-meant : (a : Bool) (r : RequestMode) (n : ℕ) (w : Which) → Working chain note on (c w) → Meant (keeperBy a r n w) chain bus note on c
+  keeper-meant true r n w h = unit-meant n w h
+  keeper-meant false Single n w h = h .no-chain
+  keeper-meant false DemandHold n w h = h
+  keeper-meant false DemandRelease n w h = h .no-chain
+  keeper-meant false DemandInterleave n w h = h .no-chain
+
+-- only a candidate begins
+abbrev Named : Turn → Controller → Type 0
+Named Nobodys u = Unit {0}
+Named (Whose w) u = isCandidate (at w u) ≡ true
+
+turn-named : (a b both : Bool) (s : Served) (u : Controller) → isCandidate (u .one) ≡ a → isCandidate (u .two) ≡ b → Named (turnBy a b both s) u
+unfolding at
+turn-named false false both s u p q = tt
+turn-named false true both s u p q = q
+turn-named true false both s u p q = p
+turn-named true true false s u p q = p
+turn-named true true true served.Nobody u p q = p
+turn-named true true true (served.Last One) u p q = q
+turn-named true true true (served.Last Two) u p q = p
+
+module _ (u : Controller) (h : (w : Which) → Settled (at w u)) where
+  begin-meant : (p : Bool) (w : Which) → at w u .pending ≡ p → isCandidate (at w u) ≡ true
+      → Meant (beginBy p (isOdd (at w u .chain)) (unitRefusal (at w u .mode) (at w u .current)) w) NoChain Free false true (λ v. at v u)
+  unfolding isCandidate
+  begin-meant true w e q =
+      fetch-meant NoChain Free false true (λ v. at v u) Reload (isOdd (at w u .chain)) w
+      (record {
+        free = refl;
+        owner = record { no-note = refl; enabled = refl; clear = record { no-sip = h w .pending-sip e; no-ca = h w .pending-ca e; no-nac = h w .pending-nac e; no-pending = refl } };
+        stage = tt;
+      })
+  begin-meant false w e q =
+      unit-meant NoChain Free false true (λ v. at v u) (unitRefusal (at w u .mode) (at w u .current)) w
+      (record {
+        no-chain = refl;
+        owner = record {
+          no-note = refl;
+          enabled = refl;
+          clear = able (at w u .pending) (requests (at w u .mode) (at w u .line)) (at w u .status .nac) (at w u .interrupt .sip) (at w u .status .ca) q e;
+        };
+      })
+
+  turn-meant : (t : Turn) → Named t u → Meant (candidateBy t u) NoChain Free false true (λ v. at v u)
+  unfolding begins
+  turn-meant Nobodys q = tt
+  turn-meant (Whose w) q = begin-meant (at w u .pending) w refl q
+
+  rules-meant : (on : Bool) (chain : Chain) (note : Bool) (bus : Bus) → TidyHalf chain → Owned chain bus note on (λ v. at v u)
+      → Meant (choiceBy on chain note bus u) chain bus note on (λ v. at v u)
+  unfolding keeper candidate
+  rules-meant false chain note bus t o = tt
+  rules-meant true (Of w s) note Free t o =
+      fetch-meant (Of w s) Free note true (λ v. at v u) s (isOdd (at w u .chain)) w
+      (record { free = refl; owner = record { no-note = o .no-note; enabled = refl; clear = unpending (o .clear) }; stage = t })
+  rules-meant true (Of w s) note (Kept v) t o = absurd o
+  rules-meant true NoChain true Free t o = (refl, refl)
+  rules-meant true NoChain true (Kept w) t o = absurd (true≢false (o .owner .no-note))
+  rules-meant true NoChain false (Kept w) t o =
+      keeper-meant NoChain (Kept w) false true (λ v. at v u) (requests (at w u .mode) (at w u .line)) (requestModeOf (at w u .mode))
+      (unitRefusal (at w u .mode) (at w u .current)) w (record { no-chain = refl; owner = o .owner })
+  rules-meant true NoChain false Free t o =
+      let both = interleaves (u .one) && interleaves (u .two) in
+      turn-meant (turnBy (isCandidate (u .one)) (isCandidate (u .two)) both (u .control .served))
+      (turn-named (isCandidate (u .one)) (isCandidate (u .two)) both (u .control .served) u refl refl)
+
+choice-meant : (u : Controller) → WellFormed u → Meant (choice u) (u .control .chain) (u .control .bus) (u .control .note) (isEnabled (u .master)) (λ v. at v u)
+unfolding choice
+choice-meant u h = rules-meant u (λ w. sound-at w u h .1) (isEnabled (u .master)) (u .control .chain) (u .control .note) (u .control .bus) (h .half) (h .owned)
+
+-- ---- what the step does
+
+abbrev isSingle : RequestMode → Bool
+isSingle Single = true
+isSingle DemandHold = false
+isSingle DemandRelease = false
+isSingle DemandInterleave = false
+
+module _ (u : Controller) (h : WellFormed u) where
+  abbrev note : Bool
+  note = u .control .note
+
+  abbrev on : Bool
+  on = isEnabled (u .master)
+
+  -- the controller with channel w and its own state anew
+  abbrev put : Which → Channel → Control → Controller
+  put w c k = with w c (u ⟨control≔ k ⟩)
+
+  -- the owner of the bus is the channel that was put
+  owner : (w : Which) (c : Channel) (k : Control) → Owner note on c → Owner note on (at w (put w c k))
+  owner w c k o = at-with (Owner note on) w c (u ⟨control≔ k ⟩) o
+
+  keeping : (w : Which) (c : Channel) (k : Control) → Keeper note on c → Keeper note on (at w (put w c k))
+  keeping w c k o = at-with (Keeper note on) w c (u ⟨control≔ k ⟩) o
+
+  module _ (w : Which) (s : Stage) (f : Fetching s (u .control .bus) note on (at w u)) where
+    fetched-half : (x : Next) (cpu act : Bool) → TidyNext x → TidyHalf (controlFetched x cpu act w (u .control) .chain)
+    fetched-half (More p) cpu act t = t
+    fetched-half Complete true act t = tt
+    fetched-half Complete false true t = tt
+    fetched-half Complete false false t = tt
+
+    fetched-owned : (x : Next) (cpu act : Bool) (c : Channel) (k : Control) → Clear c → (Finished x → act ≡ true → Software (c .mode))
+        → let j = controlFetched x cpu act w (u .control) in Owned (j .chain) (j .bus) (j .note) on (λ v. at v (put w c k))
+    fetched-owned (More p) cpu act c k e g =
+        chain-owned note on (λ v. at v (put w c k)) (u .control .bus) w (Entries p) (f .free)
+        (owner w c k (record { no-note = f .owner .no-note; enabled = f .owner .enabled; clear = e }))
+    fetched-owned Complete true act c k e g = free-owned true on (λ v. at v (put w c k)) (u .control .bus) (f .free)
+    fetched-owned Complete false true c k e g =
+        keeping w c k (record { owner = record { no-note = f .owner .no-note; enabled = f .owner .enabled; clear = e }; software = g tt refl })
+    fetched-owned Complete false false c k e g = free-owned note on (λ v. at v (put w c k)) (u .control .bus) (f .free)
+
+    fetch-well : (eop : Bool) (m : List ℕ) → WellFormed (fetchOf w s eop u m .state)
+    unfolding fetchOf
+    fetch-well true m =
+        let c = droppedOf (at w u) in
+        let k = u .control ⟨chain≔ NoChain ⟩ in
+        placed w c k u h (dropped-sound (at w u) (sound-at w u h .0) (f .owner .clear .no-sip)) tt
+        (free-owned note on (λ v. at v (put w c k)) (u .control .bus) (f .free))
+    fetch-well false m =
+        let l = fetchedOf s (valueIn Word m (number (at w u .chain))) (at w u) in
+        let x = fetched-well s (valueIn Word m (number (at w u .chain))) (at w u) (f .stage) (sound-at w u h .0) (f .owner .clear) in
+        let cpu = isInterleaved (u .master) in
+        let act = requests (l .channel .mode) (l .channel .line) in
+        let k = controlFetched (l .next) cpu act w (u .control) in
+        placed w (l .channel) k u h (x .tidy, clear-settled (x .clear)) (fetched-half (l .next) cpu act (x .half))
+        (fetched-owned (l .next) cpu act (l .channel) k (x .clear) (x .software))
+
+  module _ (w : Which) (f : Working (u .control .chain) note on (at w u)) where
+    -- an end: the bus is free, or a chain is put under way
+    end-well : (e : Ended) (s : Served) → EndedWell e
+        → WellFormed (put w (e .channel) (record { chain = chainAfter (e .chains) w (u .control .chain); bus = Free; note = note; served = s }))
+    end-well e s x = placed w (e .channel) k u h (x .sound) (after (e .chains)) (owned (e .chains) refl)
+      where
+        k : Control
+        k = record { chain = chainAfter (e .chains) w (u .control .chain); bus = Free; note = note; served = s }
+
+        after : (b : Bool) → TidyHalf (chainAfter b w (u .control .chain))
+        after true = tt
+        after false = h .half
+
+        owned : (b : Bool) → e .chains ≡ b → Owned (chainAfter b w (u .control .chain)) Free note on (λ v. at v (put w (e .channel) k))
+        owned true q = owner w (e .channel) k (record { no-note = f .owner .no-note; enabled = f .owner .enabled; clear = x .clear q })
+        owned false q = loose-owned note on (λ v. at v (put w (e .channel) k)) (u .control .chain) (f .no-chain)
+
+    -- an unended unit: both dedicated modes keep the bus
+    unended-well : (r : RequestMode) (cpu : Bool) (c : Channel) → Tidy c → Clear c → requestModeOf (c .mode) ≡ r
+        → WellFormed (put w (unendedBy r c) (unendedControl r cpu w (u .control)))
+    unended-well r cpu c t e q =
+        placed w (unendedBy r c) (unendedControl r cpu w (u .control)) u h
+        (unended-tidy r c t, clear-settled (unended-clear r c e)) (half r) (owned r q (unendedControl r cpu w (u .control)))
+      where
+        half : (r : RequestMode) → TidyHalf (unendedControl r cpu w (u .control) .chain)
+        half Single = h .half
+        half DemandHold = h .half
+        half DemandRelease = h .half
+        half DemandInterleave = h .half
+
+        keeper-of : (r : RequestMode) → requestModeOf (c .mode) ≡ r → isSingle r ≡ false → Keeper note on c
+        keeper-of r q n = record {
+          owner = record { no-note = f .owner .no-note; enabled = f .owner .enabled; clear = e };
+          software = λ p. no (ap isSingle q ∙ n) (ap isSingle p);
+        }
+
+        owned : (r : RequestMode) → requestModeOf (c .mode) ≡ r → (k : Control)
+            → let j = unendedControl r cpu w (u .control) in Owned (j .chain) (j .bus) (j .note) on (λ v. at v (put w (unendedBy r c) k))
+        owned Single q k = loose-owned note on (λ v. at v (put w (unendedBy Single c) k)) (u .control .chain) (f .no-chain)
+        owned DemandHold q k =
+            kept-owned note on (λ v. at v (put w c k)) (u .control .chain) w (f .no-chain)
+            (keeping w c k (keeper-of DemandHold q refl))
+        owned DemandRelease q k =
+            kept-owned note on (λ v. at v (put w c k)) (u .control .chain) w (f .no-chain)
+            (keeping w c k (keeper-of DemandRelease q refl))
+        owned DemandInterleave q k = loose-owned (cpu || note) on (λ v. at v (put w c k)) (u .control .chain) (f .no-chain)
+
+    after-well : (b : Bool) (cpu : Bool) (why : Reasons) (m : Moved) → Tidy (movedBy m (at w u))
+        → let e = afterBy b w why (movedBy m (at w u)) in WellFormed (put w (e .channel) (controlBy b (requestModeOf (at w u .mode)) cpu (e .chains) w (u .control)))
+    unfolding unended movedBy
+    after-well true cpu why m t =
+        end-well (endOf w why (movedBy m (at w u))) (served.Last w) (ended-well w why (movedBy m (at w u)) t (moved-clear m (at w u) (f .owner .clear)))
+    after-well false cpu why m t = unended-well (requestModeOf (at w u .mode)) cpu (movedBy m (at w u)) t (moved-clear m (at w u) (f .owner .clear)) refl
+
+    unit-well : (eop : Bool) (z : Spaces) → WellFormed (unitOf w eop u (worked (workOf (at w u)) z .moved) .state)
+    unfolding unitOf afterUnit
+    unit-well eop z =
+        let m = worked (workOf (at w u)) z .moved in
+        after-well (some (reasonsOf m eop)) (isInterleaved (u .master)) (reasonsOf m eop) m (moved-tidy (at w u) z (sound-at w u h .0))
+
+    hold-well : (eop : Bool) → WellFormed (holdOf w eop u .state)
+    unfolding holdOf
+    hold-well true = end-well (endOf w eopAlone (at w u)) (u .control .served) (ended-well w eopAlone (at w u) (sound-at w u h .0) (f .owner .clear))
+    hold-well false = h
+
+  performed-well : (x : Choice) (eop : Bool) (z : Spaces) → Meant x (u .control .chain) (u .control .bus) note on (λ v. at v u)
+      → WellFormed (performOf x eop u z .stepped .state)
+  unfolding performOf
+  performed-well chosen.Disabled eop z f = h
+  performed-well (chosen.Refused n) eop z f = h
+  performed-well (chosen.Fetch w s) eop z f = fetch-well w s f eop (z .memory)
+  performed-well chosen.GiveBack eop z f =
+      controlled (u .control ⟨note≔ false ⟩) u h (h .half)
+      (subst (λ (x : Chain). Owned x (u .control .bus) false on (λ v. at v u)) (sym (f .0))
+      (free-owned false on (λ v. at v u) (u .control .bus) (f .1)))
+  performed-well (chosen.Unit w) eop z f = unit-well w f eop z
+  performed-well (chosen.Hold w) eop z f = hold-well w f eop
+  performed-well chosen.Release eop z f =
+      controlled (u .control ⟨bus≔ Free ⟩) u h (h .half)
+      (loose-owned note on (λ v. at v u) (u .control .chain) f)
+  performed-well chosen.Idle eop z f = h
+
+  pub step-well : (eop : Bool) (z : Spaces) → WellFormed (stepOf eop u z .stepped .state)
+  unfolding stepOf
+  step-well eop z = performed-well (choice u) eop z (choice-meant u h)
+
+-- ---- the run, by its steps
+
+run-from : (n k : ℕ) (o : Outcome) → WellFormed (o .stepped .state) → WellFormed (runFrom n k o .last .stepped .state)
+unfolding runFrom
+run-from zero k o h = h
+run-from (suc n) k o h = let p = step-well (o .stepped .state) h false (o .spaces) in go (stops (next o .stepped .answer)) p (run-from n (suc k) (next o) p)
+  where
+    go : (b : Bool) → WellFormed (next o .stepped .state) → WellFormed (runFrom n (suc k) (next o) .last .stepped .state)
+        → WellFormed (cond b (record { last = next o; steps = k }) (runFrom n (suc k) (next o)) .last .stepped .state)
+    go true p q = p
+    go false p q = q
+
+pub run-well : (budget : ℕ) (u : Controller) (z : Spaces) → WellFormed u → WellFormed (runOf budget u z .last .stepped .state)
+unfolding runOf
+run-well budget u z h = go (ltb 65536 budget)
+  where
+    go : (b : Bool) → WellFormed (cond b (record { last = outcome (says u (answer.Refused 11)) z; steps = 0 }) (runFrom budget 0 (outcome (says u answer.Idle) z)) .last .stepped .state)
+    go true = h
+    go false = run-from budget 0 (outcome (says u answer.Idle) z) h
