@@ -2,3 +2,4 @@ pub mod Set
 pub mod Request
 pub mod Ending
 pub mod Loading
+pub mod EndingLaws

@@ -2,7 +2,7 @@
 ghost use mathlib.Core.Path.{_≡_};
 ghost use Rattle.mode.specs.Mode.{isRequested};
 ghost use Rattle.channel.specs.Request.{arrived, requests, isCandidate};
-ghost use Rattle.channel.specs.Ending.{flagsOf, isTwo, saved, withIp, flagged, interrupted, finished, endOf, movedBy, spent, unended, afterUnit};
+ghost use Rattle.channel.specs.Ending.{flagsOf, isTwo, saved, withIp, flagged, interrupted, finished, endOf, movedBy, spent, unended};
 ghost use Rattle.channel.specs.Loading.{addressWith, withA, withB, compareWith, modeWith, chainWith, loaded};
 use mode::Mode;
 use mode::Reasons;
@@ -259,24 +259,18 @@ impl Channel {
         }
     }
 
-    // The channel after a unit, ended or not.
-    pub fn after_unit(self, which: Which, eop: bool, m: Moved) -> Ended
-        ensures { λ r. ⌜ r ≡ afterUnit which eop m self ⌝ }
+    // The channel after an unended unit.
+    pub fn go_on(self, m: Moved) -> Channel
+        ensures { λ r. ⌜ r ≡ unended (movedBy m self) ⌝ }
     {
-        let why = Reasons {
-            tc: m.tc,
-            mc: m.compared.met,
-            eop,
-        };
-        let next = self.with_moved(m);
-        if why.any() {
-            next.end(which, why)
-        } else {
-            Ended {
-                channel: next.unend(),
-                chains: false,
-            }
-        }
+        self.with_moved(m).unend()
+    }
+
+    // The channel after a unit that ends its operation.
+    pub fn end_after(self, which: Which, why: Reasons, m: Moved) -> Ended
+        ensures { λ r. ⌜ r ≡ endOf which why (movedBy m self) ⌝ }
+    {
+        self.with_moved(m).end(which, why)
     }
 
     fn with_compare(mut self, second: bool, w: u16) -> Channel

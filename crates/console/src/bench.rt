@@ -2,22 +2,16 @@
 ghost use Prim.Native.Nat.{_≤_, _-_};
 ghost use mathlib.Core.Path.{_≡_};
 ghost use Rattle.space.specs.Space.{spaces};
-ghost use Rattle.registers.specs.Writing.{writeOf};
+ghost use Rattle.writing.specs.Writing.{writeOf};
 ghost use Rattle.udc.specs.Lines.{freshOf, linedAt};
 ghost use Rattle.udc.specs.Acknowledge.{acknowledgeOf};
 ghost use Rattle.console.specs.Calls.{leaves, callOf};
 use crate::print;
-use crate::print::Text;
 use controller::Controller;
 use lines::Call;
 use lines::Input;
 use lines::Request;
 use lines::Space;
-use port::Which;
-use registers::Reading;
-use registers::Writing;
-use udc::AckAnswer;
-use udc::LineAnswer;
 
 // The controller, and how many bytes of each space are lent.
 pub struct Bench {
@@ -72,16 +66,6 @@ fn store(s: &mut [u8], at: usize, bytes: &[u8]) -> usize {
     stored
 }
 
-fn print_row(at: usize, row: &[u8]) {
-    let mut t = Text::of(b"").hex6(at);
-    let mut i = 0;
-    while i < row.len() {
-        t = t.with(b" ").hex2(row[i]);
-        i += 1;
-    }
-    t.print();
-}
-
 fn show(s: &[u8], at: u32, n: u32) {
     let from = at as usize;
     let shown = inside(from, n as usize, s.len());
@@ -89,48 +73,24 @@ fn show(s: &[u8], at: u32, n: u32) {
     while i < shown {
         let k = least(shown - i, 16);
         let start = from + i;
-        print_row(start, &s[start..start + k]);
+        print::line(wording::row(start, &s[start..start + k]));
         i += 16;
     }
 }
 
 // ---- the calls
 
-fn print_refusal(n: u8) {
-    print::refusal(Text::of(b""), n).print();
-}
-
-fn print_pointer(u: Controller) {
-    Text::of(b"pointer ").hex4(u.pointer).print();
-}
-
 fn write(w: u16, u: Controller) -> Controller
     ensures { λ r. ⌜ r ≡ writeOf w u .state ⌝ }
 {
-    let written = registers::write(w, u);
+    let written = writing::write(w, u);
     let answer = written.answer;
-    match answer {
-        Writing::Refused(n) => print_refusal(n),
-        Writing::Taken => print::say(b"written"),
-    }
+    print::line(wording::write(answer));
     written.state
 }
 
 fn read(u: Controller) {
-    let reading = registers::read(u);
-    match reading {
-        Reading::Refused(n) => print_refusal(n),
-        Reading::Value(w) => Text::of(b"read ").hex4(w).print(),
-    }
-}
-
-fn print_level(c: u8, active: bool) {
-    let t = Text::of(b"line ").decimal(c as u64);
-    if active {
-        t.with(b" active").print();
-    } else {
-        t.with(b" inactive").print();
-    }
+    print::line(wording::read(reading::read(u)));
 }
 
 fn line(c: u8, active: bool, u: Controller) -> Controller
@@ -138,15 +98,8 @@ fn line(c: u8, active: bool, u: Controller) -> Controller
 {
     let lined = udc::line(c, active, u);
     let answer = lined.answer;
-    match answer {
-        LineAnswer::Refused(n) => print_refusal(n),
-        LineAnswer::Taken => print_level(c, active),
-    }
+    print::line(wording::line(c, active, answer));
     lined.state
-}
-
-fn acknowledged(w: Which) -> Text {
-    Text::of(b"acknowledged ").channel(w)
 }
 
 fn acknowledge(u: Controller) -> Controller
@@ -154,11 +107,7 @@ fn acknowledge(u: Controller) -> Controller
 {
     let given = udc::acknowledge(u);
     let answer = given.answer;
-    match answer {
-        AckAnswer::Refused(n) => print_refusal(n),
-        AckAnswer::Word(w, word) => acknowledged(w).with(b" ").hex4(word).print(),
-        AckAnswer::NoWord(w) => acknowledged(w).print(),
-    }
+    print::line(wording::acknowledge(answer));
     given.state
 }
 
@@ -167,17 +116,16 @@ fn step(eop: bool, u: Controller, memory: &mut [u8], io: &mut [u8]) -> Controlle
 {
     let stepped = u.step(eop, memory, io);
     let a = stepped.answer;
-    print::answer(Text::of(b""), a).print();
+    print::line(wording::step(a));
     stepped.state
 }
 
 fn run(n: u32, u: Controller, memory: &mut [u8], io: &mut [u8]) -> Controller
     ensures { λ r. ⌜ leaves r (spaces (now (memory .exit)) (now (io .exit))) ≡ callOf (Call.Run n) u (spaces (now (memory .entry)) (now (io .entry))) ⌝ }
 {
-    let ran = udc::run(u, n, memory, io);
+    let ran = running::run(u, n, memory, io);
     let a = ran.answer;
-    let t = Text::of(b"ran ").decimal(ran.steps as u64).with(b" ");
-    print::answer(t, a).print();
+    print::line(wording::run(ran.steps, a));
     ran.state
 }
 
@@ -187,16 +135,16 @@ fn make(call: Call, u: Controller, memory: &mut [u8], io: &mut [u8]) -> Controll
 {
     match call {
         Call::Reset => {
-            print::say(b"reset");
+            print::line(wording::reset());
             u.reset()
         }
         Call::WritePointer(w) => {
-            let next = registers::write_pointer(u, w);
-            print_pointer(next);
+            let next = reading::write_pointer(u, w);
+            print::line(wording::pointer(next.pointer));
             next
         }
         Call::ReadPointer => {
-            print_pointer(u);
+            print::line(wording::pointer(u.pointer));
             u
         }
         Call::Write(w) => write(w, u),
@@ -204,9 +152,9 @@ fn make(call: Call, u: Controller, memory: &mut [u8], io: &mut [u8]) -> Controll
             read(u);
             u
         }
-        Call::Set(p, w) => write(w, registers::write_pointer(u, p)),
+        Call::Set(p, w) => write(w, reading::write_pointer(u, p)),
         Call::Get(p) => {
-            let next = registers::write_pointer(u, p);
+            let next = reading::write_pointer(u, p);
             read(next);
             next
         }
@@ -221,13 +169,9 @@ fn make(call: Call, u: Controller, memory: &mut [u8], io: &mut [u8]) -> Controll
 
 fn poke(space: Space, at: u32, bytes: &[u8], memory: &mut [u8], io: &mut [u8]) {
     match space {
-        Space::Memory => print_poked(store(memory, at as usize, bytes)),
-        Space::Io => print_poked(store(io, at as usize, bytes)),
+        Space::Memory => print::line(wording::poked(store(memory, at as usize, bytes))),
+        Space::Io => print::line(wording::poked(store(io, at as usize, bytes))),
     }
-}
-
-fn print_poked(stored: usize) {
-    Text::of(b"poked ").decimal(stored as u64).print();
 }
 
 fn peek(space: Space, at: u32, n: u32, memory: &[u8], io: &[u8]) {
@@ -235,10 +179,6 @@ fn peek(space: Space, at: u32, n: u32, memory: &[u8], io: &[u8]) {
         Space::Memory => show(memory, at, n),
         Space::Io => show(io, at, n),
     }
-}
-
-fn print_error(number: u64, what: &[u8]) {
-    Text::of(b"error ").decimal(number).with(what).print();
 }
 
 // What a line asks, over the bytes that are lent.
@@ -253,11 +193,11 @@ fn serve(
     match request {
         Request::Nothing => u,
         Request::Unreadable => {
-            print_error(number, b" not understood");
+            print::line(wording::not_understood(number));
             u
         }
         Request::TooLarge => {
-            print_error(number, b" too large");
+            print::line(wording::too_large(number));
             u
         }
         Request::Make(call) => make(call, u, memory, io),
@@ -286,13 +226,13 @@ fn lend(space: Space, n: u32, b: Bench, memory: &mut [u8], io: &mut [u8]) -> Ben
         Space::Memory => {
             let k = least(n as usize, memory.len());
             clear(&mut memory[0..k]);
-            Text::of(b"memory ").decimal(n as u64).print();
+            print::line(wording::lent(space, n));
             Bench { memory: n, ..b }
         }
         Space::Io => {
             let k = least(n as usize, io.len());
             clear(&mut io[0..k]);
-            Text::of(b"io ").decimal(n as u64).print();
+            print::line(wording::lent(space, n));
             Bench { io: n, ..b }
         }
     }

@@ -16,28 +16,31 @@ use Rattle.unit.specs.Unit.{unitRefusal, whole, worked}
 use Rattle.channel.specs.declared.Channel.{Channel}
 use Rattle.channel.specs.declared.Ended.{Ended}
 use Rattle.channel.specs.Request.{requests, isCandidate}
-use Rattle.channel.specs.Ending.{reasonsOf, endOf, afterUnit}
+use Rattle.channel.specs.Ending.{reasonsOf, movedBy, unended, endOf, afterBy, afterUnit}
 use Rattle.chain.specs.declared.Stage.{Stage}
 use Rattle.chain.specs.declared.Stage.the-variants.{Reload}
 use Rattle.chain.specs.declared.Loaded.{Loaded}
 use Rattle.chain.specs.Chaining.{fetchedOf, droppedOf}
-use Rattle.controller.specs.declared.Chain.{Chain}
-use Rattle.controller.specs.declared.Chain.the-variants.{NoChain, Of}
-use Rattle.controller.specs.declared.Bus.{Bus}
-use Rattle.controller.specs.declared.Bus.the-variants.{Free, Kept}
-use Rattle.controller.specs.declared.Control.{Control}
+use Rattle.control.specs.declared.Chain.{Chain}
+use Rattle.control.specs.declared.Chain.the-variants.{NoChain, Of}
+use Rattle.control.specs.declared.Bus.{Bus}
+use Rattle.control.specs.declared.Bus.the-variants.{Free, Kept}
+use Rattle.control.specs.declared.Control.{Control}
 use Rattle.controller.specs.declared.Controller.{Controller}
 use Rattle.controller.specs.declared.Stepped.{Stepped}
 use Rattle.controller.specs.declared.Answer.the-variants as answer
-use Rattle.controller.specs.declared.Turn.{Turn}
-use Rattle.controller.specs.declared.Turn.the-variants.{Nobodys, Whose}
-use Rattle.controller.specs.declared.Choice.{Choice}
-use Rattle.controller.specs.declared.Choice.the-variants.{Disabled, GiveBack, Unit, Idle}
-use Rattle.controller.specs.Set.{_⟨control≔_⟩, _⟨chain≔_⟩}
+use Rattle.control.specs.declared.Turn.{Turn}
+use Rattle.control.specs.declared.Turn.the-variants.{Nobodys, Whose}
+use Rattle.control.specs.declared.Choice.{Choice}
+use Rattle.control.specs.declared.Choice.the-variants.{Disabled, GiveBack, Unit, Idle}
+use Rattle.controller.specs.Set.{_⟨control≔_⟩}
+use Rattle.control.specs.Set.{_⟨chain≔_⟩}
 use Rattle.controller.specs.Controller.{at, with}
-use Rattle.controller.specs.Choice.{isEnabled, isInterleaved, fetchBy, unitBy, beginBy, begins, turnBy, interleaves, candidateBy, candidate, keeper, choiceBy, choice}
-use Rattle.controller.specs.Fetching.{controlFetched, fetchOf}
-use Rattle.controller.specs.Step.{outcome, says, workOf, chainAfter, controlBy, unitOf, eopAlone, holdOf, performOf}
+use Rattle.controller.specs.Choice.{begins, interleaves, candidateBy, candidate, keeper, choiceBy, choice}
+use Rattle.control.specs.Rules.{isEnabled, isInterleaved, fetchBy, unitBy, beginBy, turnBy}
+use Rattle.controller.specs.Fetching.{fetchOf}
+use Rattle.controller.specs.Step.{outcome, says, workOf, goneOn, endedAfter, unitOf, eopAlone, holdOf, performOf}
+use Rattle.control.specs.After.{chainAfter, unendedControl, controlBy, controlFetched}
 
 -- ---- a candidate
 
@@ -59,8 +62,8 @@ module _ (u : Controller) (x y a b : Bool) (t : Turn) (ex : x ≡ interleaves (u
   pub nobodys : t ≡ Nobodys → Idle ≡ candidate u
   nobodys e = sym (by-turn e)
 
-  pub whose : (w : Which) (c : Channel) (r : Choice) → t ≡ Whose w → c ≡ at w u → r ≡ begins w c → r ≡ candidate u
-  whose w c r e ec er = er ∙ ap (begins w) ec ∙ sym (by-turn e)
+  pub whose : (w : Which) (r : Choice) → t ≡ Whose w → r ≡ begins w (at w u) → r ≡ candidate u
+  whose w r e er = er ∙ sym (by-turn e)
 
 -- ---- the rules
 
@@ -87,9 +90,9 @@ module _ (u : Controller) where
   pub rule-3 : u .control .chain ≡ NoChain → u .control .note ≡ true → GiveBack ≡ choiceBy true (u .control .chain) (u .control .note) (u .control .bus) u
   rule-3 p n = sym (by p n refl)
 
-  pub rule-4 : (r : Choice) (w : Which) (c : Channel) → u .control .chain ≡ NoChain → u .control .note ≡ false → u .control .bus ≡ Kept w → c ≡ at w u → r ≡ keeper w c
+  pub rule-4 : (r : Choice) (w : Which) → u .control .chain ≡ NoChain → u .control .note ≡ false → u .control .bus ≡ Kept w → r ≡ keeper w (at w u)
       → r ≡ choiceBy true (u .control .chain) (u .control .note) (u .control .bus) u
-  rule-4 r w c p n b ec er = er ∙ ap (keeper w) ec ∙ sym (by p n b)
+  rule-4 r w p n b er = er ∙ sym (by p n b)
 
   pub rule-5 : (r : Choice) → u .control .chain ≡ NoChain → u .control .note ≡ false → u .control .bus ≡ Free → r ≡ candidate u
       → r ≡ choiceBy true (u .control .chain) (u .control .note) (u .control .bus) u
@@ -109,21 +112,40 @@ module _ (w : Which) (eop : Bool) (u : Controller) (c : Channel) (s : Controller
   unfolding fetchOf
   fetches stage m n v l active cpu k e en ev el ea ei ek es = rw (es, ek, ei, ea, el, ev, en, ec, e)
 
-  pub settles : (m : Moved) (e : Ended) (ends : Bool) (mode : RequestMode) (cpu : Bool) (k : Control) → e ≡ afterUnit w eop m c → ends ≡ some (reasonsOf m eop)
-      → mode ≡ requestModeOf (c .mode) → cpu ≡ isInterleaved (u .master) → k ≡ controlBy ends mode cpu (e .chains) w (u .control)
-      → s ≡ with w (e .channel) (u ⟨control≔ k ⟩) → says s (answer.Unit w (reasonsOf m eop)) ≡ unitOf w eop u m
-  unfolding unitOf
-  settles m e ends mode cpu k ee en em ei ek es = rw (es, ek, ei, em, en, ee, ec)
-
   pub ends-held : (e : Ended) (chain : Chain) → eop ≡ true → e ≡ endOf w eopAlone c → chain ≡ chainAfter (e .chains) w (u .control .chain)
       → s ≡ with w (e .channel) (u ⟨control≔ record { chain = chain; bus = Free; note = u .control .note; served = u .control .served } ⟩)
       → says s (answer.Ended w) ≡ holdOf w eop u
   unfolding holdOf
   ends-held e chain on ee eh es = rw (es, eh, ee, ec, on)
 
-pub does-unit : (w : Which) (eop : Bool) (u : Controller) (c : Channel) (k : Work) (m : Moved) (z z′ : Spaces) (r : Stepped) → c ≡ at w u → k ≡ workOf c
+pub gone-on : (w v : Which) (u : Controller) (m : Moved) (c : Channel) (k : Control) (r : RequestMode) (cpu : Bool) → w ≡ v → r ≡ requestModeOf (at w u .mode)
+    → cpu ≡ isInterleaved (u .master) → k ≡ unendedControl r cpu w (u .control) → c ≡ unended (movedBy m (at v u)) → with v c (u ⟨control≔ k ⟩) ≡ goneOn w u m
+unfolding goneOn
+gone-on w v u m c k r cpu e er ei ek ec = rw (ec, ek, ei, er, e)
+
+-- an unended unit, and one that ends its operation
+module _ (w : Which) (eop : Bool) (u : Controller) (m : Moved) (s : Controller) (ends : Bool) (e : ends ≡ some (reasonsOf m eop)) where
+  settled : Bool → Stepped
+  settled b =
+      let c = at w u in
+      let k = afterBy b w (reasonsOf m eop) (movedBy m c) in
+      says (with w (k .channel) (u ⟨control≔ controlBy b (requestModeOf (c .mode)) (isInterleaved (u .master)) (k .chains) w (u .control) ⟩)) (answer.Unit w (reasonsOf m eop))
+
+  is-settled : (b : Bool) → ends ≡ b → settled b ≡ unitOf w eop u m
+  unfolding unitOf afterUnit settled
+  is-settled b h = ap settled (sym (sym e ∙ h))
+
+  pub settles-on : ends ≡ false → s ≡ goneOn w u m → says s (answer.Unit w (reasonsOf m eop)) ≡ unitOf w eop u m
+  unfolding goneOn settled
+  settles-on h es = ap (λ (x : Controller). says x (answer.Unit w (reasonsOf m eop))) es ∙ is-settled false h
+
+  pub settles-ended : ends ≡ true → s ≡ endedAfter w (reasonsOf m eop) u m → says s (answer.Unit w (reasonsOf m eop)) ≡ unitOf w eop u m
+  unfolding endedAfter settled
+  settles-ended h es = ap (λ (x : Controller). says x (answer.Unit w (reasonsOf m eop))) es ∙ is-settled true h
+
+pub does-unit : (w : Which) (eop : Bool) (u : Controller) (k : Work) (m : Moved) (z z′ : Spaces) (r : Stepped) → k ≡ workOf (at w u)
     → whole m z′ ≡ worked k z → r ≡ unitOf w eop u m → outcome r z′ ≡ performOf (Unit w) eop u z
 unfolding performOf
-does-unit w eop u c k m z z′ r ec ek e er =
-    let f : whole m z′ ≡ worked (workOf (at w u)) z = e ∙ ap (λ (x : Work). worked x z) (ek ∙ ap workOf ec) in
+does-unit w eop u k m z z′ r ek e er =
+    let f : whole m z′ ≡ worked (workOf (at w u)) z = e ∙ ap (λ (x : Work). worked x z) ek in
     (λ i. outcome (er i) z′) ∙ (λ i. outcome (unitOf w eop u (f i .moved)) (f i .spaces))

@@ -5,10 +5,10 @@ use Rattle.port.specs.declared.Which.{Which}
 use Rattle.port.specs.declared.Which.the-variants.{One, Two}
 use Rattle.channel.specs.declared.Channel.{Channel}
 use Rattle.channel.specs.Set.{_⟨interrupt≔_⟩, _⟨cie≔_⟩, _⟨ip≔_⟩, _⟨sip≔_⟩, _⟨status≔_⟩, _⟨ca≔_⟩, _⟨nac≔_⟩, _⟨line≔_⟩, _⟨change≔_⟩, _⟨pending≔_⟩}
-use Rattle.controller.specs.declared.Control.{Control}
-use Rattle.controller.specs.declared.Chain.the-variants.{NoChain}
-use Rattle.controller.specs.declared.Bus.the-variants.{Free}
-use Rattle.controller.specs.declared.Served.the-variants.{Nobody}
+use Rattle.control.specs.declared.Control.{Control}
+use Rattle.control.specs.declared.Chain.the-variants.{NoChain}
+use Rattle.control.specs.declared.Bus.the-variants.{Free}
+use Rattle.control.specs.declared.Served.the-variants.{Nobody}
 use Rattle.controller.specs.declared.Controller.{Controller}
 use Rattle.controller.specs.Set.{_⟨one≔_⟩, _⟨two≔_⟩}
 

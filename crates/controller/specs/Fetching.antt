@@ -13,22 +13,17 @@ use Rattle.chain.specs.declared.Next.the-variants.{More, Complete}
 use Rattle.chain.specs.declared.Loaded.{Loaded}
 use Rattle.chain.specs.Chaining.{fetchedOf, droppedOf}
 use Rattle.channel.specs.Request.{requests}
-use Rattle.controller.specs.declared.Chain.the-variants.{NoChain, Of}
-use Rattle.controller.specs.declared.Bus.the-variants.{Kept}
-use Rattle.controller.specs.declared.Control.{Control}
+use Rattle.control.specs.declared.Chain.the-variants.{NoChain, Of}
+use Rattle.control.specs.declared.Bus.the-variants.{Kept}
+use Rattle.control.specs.declared.Control.{Control}
 use Rattle.controller.specs.declared.Controller.{Controller}
 use Rattle.controller.specs.declared.Stepped.{Stepped}
 use Rattle.controller.specs.declared.Answer.the-variants.{Fetched, Dropped}
-use Rattle.controller.specs.Set.{_⟨control≔_⟩, _⟨chain≔_⟩, _⟨bus≔_⟩, _⟨note≔_⟩}
+use Rattle.controller.specs.Set.{_⟨control≔_⟩}
+use Rattle.control.specs.Set.{_⟨chain≔_⟩, _⟨bus≔_⟩, _⟨note≔_⟩}
+use Rattle.control.specs.After.{controlFetched}
 use Rattle.controller.specs.Controller.{at, with}
-use Rattle.controller.specs.Choice.{isInterleaved}
-
--- After the last fetch CPU interleave set leaves a give-back note; clear, the channel keeps the bus if its request is active.
-abbrev pub controlFetched : Next → Bool → Bool → Which → Control → Control
-controlFetched (More p) cpu active w k = k ⟨chain≔ Of w (Entries p) ⟩
-controlFetched Complete true active w k = k ⟨chain≔ NoChain ⟩ ⟨note≔ true ⟩
-controlFetched Complete false true w k = k ⟨chain≔ NoChain ⟩ ⟨bus≔ Kept w ⟩
-controlFetched Complete false false w k = k ⟨chain≔ NoChain ⟩
+use Rattle.control.specs.Rules.{isInterleaved}
 
 abbrev pub fetchedBy : Which → Loaded → Controller → Stepped
 fetchedBy w l u = record {

@@ -4,3 +4,4 @@ pub mod Choice
 pub mod Fetching
 pub mod Step
 pub mod Answers
+pub mod StepLaws

@@ -1,19 +1,11 @@
 -- The record with one field anew, for each field of each record. Generated from src/.
 use Prim.Native.Nat.{ℕ}
-use mathlib.Core.Bool.{Bool}
 use Rattle.controller.specs.declared.Answer.{Answer}
-use Rattle.controller.specs.declared.Bus.{Bus}
-use Rattle.controller.specs.declared.Chain.{Chain}
 use Rattle.channel.specs.declared.Channel.{Channel}
-use Rattle.controller.specs.declared.Control.{Control}
+use Rattle.control.specs.declared.Control.{Control}
 use Rattle.controller.specs.declared.Controller.{Controller}
-use Rattle.controller.specs.declared.Served.{Served}
 use Rattle.controller.specs.declared.Stepped.{Stepped}
 
-infixl 90 _⟨chain≔_⟩
-infixl 90 _⟨bus≔_⟩
-infixl 90 _⟨note≔_⟩
-infixl 90 _⟨served≔_⟩
 infixl 90 _⟨pointer≔_⟩
 infixl 90 _⟨master≔_⟩
 infixl 90 _⟨control≔_⟩
@@ -21,18 +13,6 @@ infixl 90 _⟨one≔_⟩
 infixl 90 _⟨two≔_⟩
 infixl 90 _⟨state≔_⟩
 infixl 90 _⟨answer≔_⟩
-abbrev pub _⟨chain≔_⟩ : Control → Chain → Control
-_⟨chain≔_⟩ x v = record { chain = v; bus = x .bus; note = x .note; served = x .served }
-
-abbrev pub _⟨bus≔_⟩ : Control → Bus → Control
-_⟨bus≔_⟩ x v = record { chain = x .chain; bus = v; note = x .note; served = x .served }
-
-abbrev pub _⟨note≔_⟩ : Control → Bool → Control
-_⟨note≔_⟩ x v = record { chain = x .chain; bus = x .bus; note = v; served = x .served }
-
-abbrev pub _⟨served≔_⟩ : Control → Served → Control
-_⟨served≔_⟩ x v = record { chain = x .chain; bus = x .bus; note = x .note; served = v }
-
 abbrev pub _⟨pointer≔_⟩ : Controller → ℕ → Controller
 _⟨pointer≔_⟩ x v = record { pointer = v; master = x .master; control = x .control; one = x .one; two = x .two }
 

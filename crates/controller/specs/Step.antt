@@ -14,25 +14,28 @@ use Rattle.unit.specs.declared.Moved.{Moved}
 use Rattle.unit.specs.Unit.{worked}
 use Rattle.channel.specs.declared.Channel.{Channel}
 use Rattle.channel.specs.declared.Ended.{Ended}
-use Rattle.channel.specs.Ending.{reasonsOf, endOf, afterUnit}
+use Rattle.channel.specs.Ending.{reasonsOf, movedBy, unended, endOf, afterUnit}
 use Rattle.chain.specs.declared.Stage.{Stage}
 use Rattle.chain.specs.declared.Stage.the-variants.{Reload}
-use Rattle.controller.specs.declared.Chain.{Chain}
-use Rattle.controller.specs.declared.Chain.the-variants.{Of}
-use Rattle.controller.specs.declared.Bus.the-variants.{Free, Kept}
-use Rattle.controller.specs.declared.Served.the-variants.{Last}
-use Rattle.controller.specs.declared.Control.{Control}
+use Rattle.control.specs.declared.Chain.{Chain}
+use Rattle.control.specs.declared.Chain.the-variants.{Of}
+use Rattle.control.specs.declared.Bus.the-variants.{Free, Kept}
+use Rattle.control.specs.declared.Served.the-variants.{Last}
+use Rattle.control.specs.declared.Control.{Control}
 use Rattle.controller.specs.declared.Controller.{Controller}
 use Rattle.controller.specs.declared.Stepped.{Stepped}
-use Rattle.controller.specs.declared.Choice.{Choice}
-use Rattle.controller.specs.declared.Choice.the-variants.{Disabled, Refused, Fetch, GiveBack, Unit, Hold, Release, Idle}
+use Rattle.control.specs.declared.Choice.{Choice}
+use Rattle.control.specs.declared.Choice.the-variants.{Disabled, Refused, Fetch, GiveBack, Unit, Hold, Release, Idle}
 use Rattle.controller.specs.declared.Back.{Back}
 use Rattle.controller.specs.declared.Back.the-variants.{Note, Bus}
 use Rattle.controller.specs.declared.Answer.{Answer}
 use Rattle.controller.specs.declared.Answer.the-variants as answer
-use Rattle.controller.specs.Set.{_⟨control≔_⟩, _⟨bus≔_⟩, _⟨note≔_⟩}
+use Rattle.controller.specs.Set.{_⟨control≔_⟩}
+use Rattle.control.specs.Set.{_⟨bus≔_⟩, _⟨note≔_⟩}
+use Rattle.control.specs.After.{chainAfter, unendedControl, endedControl, controlBy}
 use Rattle.controller.specs.Controller.{at, with}
-use Rattle.controller.specs.Choice.{isInterleaved, choice}
+use Rattle.controller.specs.Choice.{choice}
+use Rattle.control.specs.Rules.{isInterleaved}
 use Rattle.controller.specs.Fetching.{fetchOf}
 
 -- All that a step leaves: the next state and the answer, and both spaces.
@@ -57,26 +60,6 @@ workOf c = record {
   kept = record { mch = c .status .mch; mcl = c .status .mcl; met = false };
 }
 
--- An end puts a chain under way if chaining is enabled for a reason.
-abbrev pub chainAfter : Bool → Which → Chain → Chain
-chainAfter true w chain = Of w Reload
-chainAfter false w chain = chain
-
--- After an unended unit both dedicated modes keep the bus; single does not. Interleave does not keep it, and with CPU interleave set
--- leaves a give-back note. An end frees the bus. Served last is the channel of the latest unit.
-abbrev pub unendedControl : RequestMode → Bool → Which → Control → Control
-unendedControl Single cpu w k = record { chain = k .chain; bus = Free; note = k .note; served = Last w }
-unendedControl DemandHold cpu w k = record { chain = k .chain; bus = Kept w; note = k .note; served = Last w }
-unendedControl DemandRelease cpu w k = record { chain = k .chain; bus = Kept w; note = k .note; served = Last w }
-unendedControl DemandInterleave cpu w k = record { chain = k .chain; bus = Free; note = cpu || k .note; served = Last w }
-
-abbrev pub endedControl : Bool → Which → Control → Control
-endedControl chains w k = record { chain = chainAfter chains w (k .chain); bus = Free; note = k .note; served = Last w }
-
-abbrev pub controlBy : Bool → RequestMode → Bool → Bool → Which → Control → Control
-controlBy true m cpu chains w k = endedControl chains w k
-controlBy false m cpu chains w k = unendedControl m cpu w k
-
 unfoldable pub unitOf : Which → Bool → Controller → Moved → Stepped
 unitOf w eop u m =
     let c = at w u in
@@ -85,6 +68,18 @@ unitOf w eop u m =
     says
     (with w (e .channel) (u ⟨control≔ controlBy (some why) (requestModeOf (c .mode)) (isInterleaved (u .master)) (e .chains) w (u .control) ⟩))
     (answer.Unit w why)
+
+-- the controller after an unended unit
+unfoldable pub goneOn : Which → Controller → Moved → Controller
+goneOn w u m =
+    let c = at w u in
+    with w (unended (movedBy m c)) (u ⟨control≔ unendedControl (requestModeOf (c .mode)) (isInterleaved (u .master)) w (u .control) ⟩)
+
+-- .. and after one that ends its operation
+unfoldable pub endedAfter : Which → Reasons → Controller → Moved → Controller
+endedAfter w why u m =
+    let e = endOf w why (movedBy m (at w u)) in
+    with w (e .channel) (u ⟨control≔ endedControl (e .chains) w (u .control) ⟩)
 
 -- ---- holding
 

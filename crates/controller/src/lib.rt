@@ -4,12 +4,18 @@ ghost use mathlib.Core.Bool.{true};
 ghost use Rattle.space.specs.Space.{spaces};
 ghost use Rattle.controller.specs.Set.{_⟨control≔_⟩};
 ghost use Rattle.controller.specs.Controller.{at, with, resetChannel, resetOf};
-ghost use Rattle.controller.specs.Choice.{isEnabled, isInterleaved, isInterleave, fetchBy, unitBy, keeper, begins, turnBy, interleaves, candidate, choiceBy, choice};
-ghost use Rattle.controller.specs.Fetching.{controlFetched, fetchOf};
-ghost use Rattle.controller.specs.Step.{outcome, workOf, chainAfter, unendedControl, controlBy, unitOf, holdOf, backOf, performOf, stepOf};
-use chain::Next;
+ghost use Rattle.controller.specs.Choice.{keeper, begins, interleaves, candidate, choiceBy, choice};
+ghost use Rattle.mode.specs.Mode.{requestModeOf};
+ghost use Rattle.controller.specs.Fetching.{fetchOf};
+ghost use Rattle.controller.specs.Step.{outcome, workOf, goneOn, endedAfter, unitOf, holdOf, backOf, performOf, stepOf};
 use chain::Stage;
 use channel::Channel;
+use control::Bus;
+use control::Chain;
+use control::Choice;
+use control::Control;
+use control::Served;
+use control::Turn;
 use mode::Reasons;
 use mode::RequestMode;
 use moving::Compared;
@@ -19,50 +25,12 @@ use space::Width;
 use unit::Moved;
 use unit::Work;
 
-// A chain under way.
-pub enum Chain {
-    NoChain,
-    Of(Which, Stage),
-}
-
-// The bus: free, or kept by a channel.
-pub enum Bus {
-    Free,
-    Kept(Which),
-}
-
-// The channel of the latest unit.
-pub enum Served {
-    Nobody,
-    Last(Which),
-}
-
-// What belongs to no channel: the chain under way, the kept bus, the give-back note, and who was served last.
-pub struct Control {
-    pub chain: Chain,
-    pub bus: Bus,
-    pub note: bool,
-    pub served: Served,
-}
-
 pub struct Controller {
     pub pointer: u16,
     pub master: u16,
     pub control: Control,
     pub one: Channel,
     pub two: Channel,
-}
-
-// Which step comes next.
-pub enum Choice {
-    Disabled,
-    Refused(u8),
-    Fetch(Which, Stage),
-    GiveBack,
-    Unit(Which),
-    Hold(Which),
-    Release,
-    Idle,
 }
 
 // The two cases of given back: the note, or the bus.
@@ -83,12 +51,6 @@ pub enum Answer {
     Ended(Which),
 }
 
-// Whose turn it is among the candidates.
-pub enum Turn {
-    Nobodys,
-    Whose(Which),
-}
-
 pub struct Stepped {
     pub state: Controller,
     pub answer: Answer,
@@ -96,48 +58,12 @@ pub struct Stepped {
 
 // ---- which step comes next
 
-pub fn is_enabled(master: u16) -> bool
-    ensures { λ r. ⌜ r ≡ isEnabled master ⌝ }
-{
-    master & 1 == 1
-}
-
-pub fn is_interleaved(master: u16) -> bool
-    ensures { λ r. ⌜ r ≡ isInterleaved master ⌝ }
-{
-    (master >> 1) & 1 == 1
-}
-
-fn fetch_choice(stage: Stage, odd: bool, w: Which) -> Choice
-    ensures { λ r. ⌜ r ≡ fetchBy stage odd w ⌝ }
-{
-    match stage {
-        Stage::Reload => {
-            if odd {
-                return Choice::Refused(6);
-            }
-            Choice::Fetch(w, Stage::Reload)
-        }
-        Stage::Entries(p) => Choice::Fetch(w, Stage::Entries(p)),
-    }
-}
-
-fn unit_choice(n: u8, w: Which) -> Choice
-    ensures { λ r. ⌜ r ≡ unitBy n w ⌝ }
-{
-    if n == 0 {
-        Choice::Unit(w)
-    } else {
-        Choice::Refused(n)
-    }
-}
-
 // A channel that keeps the bus.
 fn keeper_choice(w: Which, c: Channel) -> Choice
     ensures { λ r. ⌜ r ≡ keeper w c ⌝ }
 {
     if channel::is_requesting(c.mode, c.line) {
-        return unit_choice(unit::unit_refusal(c.mode, c.current), w);
+        return control::unit_choice(unit::unit_refusal(c.mode, c.current), w);
     }
     let mode = c.mode.request_mode();
     match mode {
@@ -153,164 +79,18 @@ fn begin_choice(w: Which, c: Channel) -> Choice
     ensures { λ r. ⌜ r ≡ begins w c ⌝ }
 {
     if c.pending {
-        return fetch_choice(Stage::Reload, c.chain.is_odd(), w);
+        return control::fetch_choice(Stage::Reload, c.chain.is_odd(), w);
     }
-    unit_choice(unit::unit_refusal(c.mode, c.current), w)
-}
-
-// Of two units in demand interleave the channel not served last comes next.
-fn other_turn(served: Served) -> Turn
-    ensures { λ r. ⌜ r ≡ turnBy true true true served ⌝ }
-{
-    match served {
-        Served::Nobody => Turn::Whose(Which::One),
-        Served::Last(w) => match w {
-            Which::One => Turn::Whose(Which::Two),
-            Which::Two => Turn::Whose(Which::One),
-        },
-    }
-}
-
-fn whose_turn(first: bool, second: bool, both: bool, served: Served) -> Turn
-    ensures { λ r. ⌜ r ≡ turnBy first second both served ⌝ }
-{
-    if first {
-        if second {
-            if both {
-                return other_turn(served);
-            }
-            return Turn::Whose(Which::One);
-        }
-        return Turn::Whose(Which::One);
-    }
-    if second {
-        Turn::Whose(Which::Two)
-    } else {
-        Turn::Nobodys
-    }
-}
-
-fn is_interleave(mode: RequestMode) -> bool
-    ensures { λ r. ⌜ r ≡ isInterleave mode ⌝ }
-{
-    match mode {
-        RequestMode::Single => false,
-        RequestMode::DemandHold => false,
-        RequestMode::DemandRelease => false,
-        RequestMode::DemandInterleave => true,
-    }
+    control::unit_choice(unit::unit_refusal(c.mode, c.current), w)
 }
 
 fn is_interleaving(c: Channel) -> bool
     ensures { λ r. ⌜ r ≡ interleaves c ⌝ }
 {
-    !c.pending & is_interleave(c.mode.request_mode())
+    !c.pending & control::is_interleave(c.mode.request_mode())
 }
 
 // ---- what a step leaves of the controller's own state
-
-fn chain_after(chains: bool, w: Which, chain: Chain) -> Chain
-    ensures { λ r. ⌜ r ≡ chainAfter chains w chain ⌝ }
-{
-    if chains {
-        Chain::Of(w, Stage::Reload)
-    } else {
-        chain
-    }
-}
-
-fn unended_control(m: RequestMode, cpu: bool, w: Which, k: Control) -> Control
-    ensures { λ r. ⌜ r ≡ unendedControl m cpu w k ⌝ }
-{
-    let chain = k.chain;
-    match m {
-        RequestMode::Single => Control {
-            chain,
-            bus: Bus::Free,
-            note: k.note,
-            served: Served::Last(w),
-        },
-        RequestMode::DemandHold => Control {
-            chain,
-            bus: Bus::Kept(w),
-            note: k.note,
-            served: Served::Last(w),
-        },
-        RequestMode::DemandRelease => Control {
-            chain,
-            bus: Bus::Kept(w),
-            note: k.note,
-            served: Served::Last(w),
-        },
-        RequestMode::DemandInterleave => Control {
-            chain,
-            bus: Bus::Free,
-            note: cpu | k.note,
-            served: Served::Last(w),
-        },
-    }
-}
-
-fn control_after(
-    ended: bool,
-    m: RequestMode,
-    cpu: bool,
-    chains: bool,
-    w: Which,
-    k: Control,
-) -> Control
-    ensures { λ r. ⌜ r ≡ controlBy ended m cpu chains w k ⌝ }
-{
-    if ended {
-        let chain = k.chain;
-        return Control {
-            chain: chain_after(chains, w, chain),
-            bus: Bus::Free,
-            note: k.note,
-            served: Served::Last(w),
-        };
-    }
-    unended_control(m, cpu, w, k)
-}
-
-fn control_fetched(next: Next, cpu: bool, active: bool, w: Which, k: Control) -> Control
-    ensures { λ r. ⌜ r ≡ controlFetched next cpu active w k ⌝ }
-{
-    let bus = k.bus;
-    let served = k.served;
-    match next {
-        Next::More(p) => Control {
-            chain: Chain::Of(w, Stage::Entries(p)),
-            bus,
-            note: k.note,
-            served,
-        },
-        Next::Complete => {
-            if cpu {
-                return Control {
-                    chain: Chain::NoChain,
-                    bus,
-                    note: true,
-                    served,
-                };
-            }
-            if active {
-                return Control {
-                    chain: Chain::NoChain,
-                    bus: Bus::Kept(w),
-                    note: k.note,
-                    served,
-                };
-            }
-            Control {
-                chain: Chain::NoChain,
-                bus,
-                note: k.note,
-                served,
-            }
-        }
-    }
-}
 
 fn work_of(c: Channel) -> Work
     ensures { λ r. ⌜ r ≡ workOf c ⌝ }
@@ -393,13 +173,22 @@ impl Controller {
         }
     }
 
+    fn begin(self, w: Which) -> Choice
+        ensures { λ r. ⌜ r ≡ begins w (at w self) ⌝ }
+    {
+        match w {
+            Which::One => begin_choice(Which::One, self.one),
+            Which::Two => begin_choice(Which::Two, self.two),
+        }
+    }
+
     fn candidate_choice(self) -> Choice
         ensures { λ r. ⌜ r ≡ candidate self ⌝ }
     {
         let both = is_interleaving(self.one) & is_interleaving(self.two);
         let control = self.control;
         let served = control.served;
-        let turn = whose_turn(
+        let turn = control::whose_turn(
             self.one.is_candidate(),
             self.two.is_candidate(),
             both,
@@ -407,7 +196,16 @@ impl Controller {
         );
         match turn {
             Turn::Nobodys => Choice::Idle,
-            Turn::Whose(w) => begin_choice(w, self.channel(w)),
+            Turn::Whose(w) => self.begin(w),
+        }
+    }
+
+    fn keeper(self, w: Which) -> Choice
+        ensures { λ r. ⌜ r ≡ keeper w (at w self) ⌝ }
+    {
+        match w {
+            Which::One => keeper_choice(Which::One, self.one),
+            Which::Two => keeper_choice(Which::Two, self.two),
         }
     }
 
@@ -418,14 +216,14 @@ impl Controller {
         let control = self.control;
         let chain = control.chain;
         match chain {
-            Chain::Of(w, stage) => fetch_choice(stage, self.channel(w).chain.is_odd(), w),
+            Chain::Of(w, stage) => control::fetch_choice(stage, self.channel(w).chain.is_odd(), w),
             Chain::NoChain => {
                 if control.note {
                     return Choice::GiveBack;
                 }
                 let bus = control.bus;
                 match bus {
-                    Bus::Kept(w) => keeper_choice(w, self.channel(w)),
+                    Bus::Kept(w) => self.keeper(w),
                     Bus::Free => self.candidate_choice(),
                 }
             }
@@ -436,7 +234,7 @@ impl Controller {
     pub fn choose(self) -> Choice
         ensures { λ r. ⌜ r ≡ choice self ⌝ }
     {
-        if is_enabled(self.master) {
+        if control::is_enabled(self.master) {
             return self.enabled_choice();
         }
         Choice::Disabled
@@ -467,36 +265,90 @@ impl Controller {
         let d = l.channel;
         let next = l.next;
         let active = channel::is_requesting(d.mode, d.line);
-        let after = control_fetched(next, is_interleaved(self.master), active, w, k);
+        let after = control::control_fetched(
+            next,
+            control::is_interleaved(self.master),
+            active,
+            w,
+            k,
+        );
         Stepped {
             state: self.with_both(w, d, after),
             answer: Answer::Fetched(w),
         }
     }
 
+    // The registers that a channel's unit works on, and no whole channel, since a copy costs.
+    fn work(self, w: Which) -> Work
+        ensures { λ r. ⌜ r ≡ workOf (at w self) ⌝ }
+    {
+        match w {
+            Which::One => work_of(self.one),
+            Which::Two => work_of(self.two),
+        }
+    }
+
+    fn request_mode(self, w: Which) -> RequestMode
+        ensures { λ r. ⌜ r ≡ requestModeOf (at w self .mode) ⌝ }
+    {
+        match w {
+            Which::One => self.one.mode.request_mode(),
+            Which::Two => self.two.mode.request_mode(),
+        }
+    }
+
+    // A unit that does not end its operation.
+    fn go_on(mut self, w: Which, m: Moved) -> Controller
+        ensures { λ r. ⌜ r ≡ goneOn w self m ⌝ }
+    {
+        let k = self.control;
+        let cpu = control::is_interleaved(self.master);
+        let next = control::unended_control(self.request_mode(w), cpu, w, k);
+        self.control = next;
+        match w {
+            Which::One => {
+                let c = self.one.go_on(m);
+                self.one = c;
+                self
+            }
+            Which::Two => {
+                let c = self.two.go_on(m);
+                self.two = c;
+                self
+            }
+        }
+    }
+
+    // A unit that ends it.
+    fn end_after(self, w: Which, why: Reasons, m: Moved) -> Controller
+        ensures { λ r. ⌜ r ≡ endedAfter w why self m ⌝ }
+    {
+        let k = self.control;
+        let e = self.channel(w).end_after(w, why, m);
+        let d = e.channel;
+        let next = control::ended_control(e.chains, w, k);
+        self.with_both(w, d, next)
+    }
+
     // A channel after its unit, and the controller with it.
     fn settle_unit(self, w: Which, eop: bool, m: Moved) -> Stepped
         ensures { λ r. ⌜ r ≡ unitOf w eop self m ⌝ }
     {
-        let c = self.channel(w);
-        let k = self.control;
         let why = Reasons {
             tc: m.tc,
             mc: m.compared.met,
             eop,
         };
-        let e = c.after_unit(w, eop, m);
-        let d = e.channel;
-        let after = control_after(
-            why.any(),
-            c.mode.request_mode(),
-            is_interleaved(self.master),
-            e.chains,
-            w,
-            k,
-        );
+        let mut next = self;
+        if why.any() {
+            let ended = self.end_after(w, why, m);
+            next = ended;
+        } else {
+            let gone = self.go_on(w, m);
+            next = gone;
+        }
         Stepped {
-            state: self.with_both(w, d, after),
+            state: next,
             answer: Answer::Unit(w, why),
         }
     }
@@ -519,7 +371,7 @@ impl Controller {
             let chain = k.chain;
             let served = k.served;
             let after = Control {
-                chain: chain_after(e.chains, w, chain),
+                chain: control::chain_after(e.chains, w, chain),
                 bus: Bus::Free,
                 note: k.note,
                 served,
@@ -569,7 +421,7 @@ impl Controller {
     fn unit(self, w: Which, eop: bool, memory: &mut [u8], io: &mut [u8]) -> Stepped
         ensures { λ r. ⌜ outcome r (spaces (now (memory .exit)) (now (io .exit))) ≡ performOf (Choice.Unit w) eop self (spaces (now (memory .entry)) (now (io .entry))) ⌝ }
     {
-        let m = unit::carry(work_of(self.channel(w)), memory, io);
+        let m = unit::carry(self.work(w), memory, io);
         self.settle_unit(w, eop, m)
     }
 

@@ -10,6 +10,7 @@ use Rattle.space.specs.declared.Place.{Place}
 use Rattle.space.specs.Space.{Spaces, get}
 use Rattle.space.specs.Laws.{Bytes}
 use Rattle.moving.specs.Funnel.{joined, firstHalf, secondHalf}
+use Rattle.moving.specs.FunnelLaws.{halves-joined}
 use Rattle.laws.specs.Local.{Write, gets, gets-agree}
 use Rattle.laws.specs.Block.{values, To, Arrived}
 
@@ -30,10 +31,6 @@ to-word high h l =
     record { to = h; what = λ d. joined high (getD d 0 255) (getD d 1 255) / 256 }
     ∷ record { to = l; what = λ d. joined high (getD d 0 255) (getD d 1 255) % 256 }
     ∷ []
-
-halves-joined : (high : Bool) (w : ℕ) → w < 65536 → joined high (firstHalf high w % 256) (secondHalf high w % 256) ≡ w
-halves-joined true w h = omega arith
-halves-joined false w h = omega arith
 
 high-of : (x y : ℕ) → y < 256 → (x * 256 + y) / 256 ≡ x
 high-of x y h = omega arith

@@ -1,4 +1,8 @@
 // What a line of the console asks for.
+ghost use mathlib.Core.Path.{_≡_};
+ghost use Prim.Native.Nat.{_%_};
+ghost use Rattle.lines.specs.Reading.{named, names, otherNames, benchNames, lastOf, pointerOf, writeOf, setOf, getOf, levelOf, lineOf, stepOf, runOf, limitOf, lendOf, spaceOf, peekOf, filled, bytesFrom, asked, pokeOf, taken, readOf};
+
 mod text;
 
 use text::Number;
@@ -68,7 +72,9 @@ enum Name {
     Unknown,
 }
 
-fn name_of_port_call(s: &[u8]) -> Name {
+fn name_of_port_call(s: &[u8]) -> Name
+    ensures { λ r. ⌜ r ≡ named (now (s .entry)) names ⌝ }
+{
     if text::same(s, b"reset") {
         return Name::Reset;
     }
@@ -90,7 +96,9 @@ fn name_of_port_call(s: &[u8]) -> Name {
     name_of_other_call(s)
 }
 
-fn name_of_other_call(s: &[u8]) -> Name {
+fn name_of_other_call(s: &[u8]) -> Name
+    ensures { λ r. ⌜ r ≡ named (now (s .entry)) otherNames ⌝ }
+{
     if text::same(s, b"line") {
         return Name::Line;
     }
@@ -106,7 +114,9 @@ fn name_of_other_call(s: &[u8]) -> Name {
     name_at_the_bench(s)
 }
 
-fn name_at_the_bench(s: &[u8]) -> Name {
+fn name_at_the_bench(s: &[u8]) -> Name
+    ensures { λ r. ⌜ r ≡ named (now (s .entry)) benchNames ⌝ }
+{
     if text::same(s, b"memory") {
         return Name::Memory;
     }
@@ -128,23 +138,31 @@ fn name_at_the_bench(s: &[u8]) -> Name {
     Name::Unknown
 }
 
-fn low_word(n: u32) -> u16 {
+fn low_word(n: u32) -> u16
+    ensures { λ r. ⌜ r ≡ n % 65536 ⌝ }
+{
     (n % 65536) as u16
 }
 
-fn low_byte(n: u32) -> u8 {
+fn low_byte(n: u32) -> u8
+    ensures { λ r. ⌜ r ≡ n % 256 ⌝ }
+{
     (n % 256) as u8
 }
 
 // What a line asks whose last word was read, if nothing follows it.
-fn last(more: &[u8], r: Request) -> Request {
+fn last(more: &[u8], asked: Request) -> Request
+    ensures { λ r. ⌜ r ≡ lastOf (now (more .entry)) asked ⌝ }
+{
     if more.len() == 0 {
-        return r;
+        return asked;
     }
     Request::Unreadable
 }
 
-fn pointer(s: &[u8]) -> Request {
+fn pointer(s: &[u8]) -> Request
+    ensures { λ r. ⌜ r ≡ pointerOf (now (s .entry)) ⌝ }
+{
     if s.len() == 0 {
         return Request::Make(Call::ReadPointer);
     }
@@ -157,14 +175,18 @@ fn pointer(s: &[u8]) -> Request {
     )
 }
 
-fn write(s: &[u8]) -> Request {
+fn write(s: &[u8]) -> Request
+    ensures { λ r. ⌜ r ≡ writeOf (now (s .entry)) ⌝ }
+{
     let Number::Of(w) = text::word(text::first(s)) else {
         return Request::Unreadable;
     };
     last(text::rest(s), Request::Make(Call::Write(low_word(w))))
 }
 
-fn set(s: &[u8]) -> Request {
+fn set(s: &[u8]) -> Request
+    ensures { λ r. ⌜ r ≡ setOf (now (s .entry)) ⌝ }
+{
     let Number::Of(p) = text::word(text::first(s)) else {
         return Request::Unreadable;
     };
@@ -178,14 +200,18 @@ fn set(s: &[u8]) -> Request {
     )
 }
 
-fn get(s: &[u8]) -> Request {
+fn get(s: &[u8]) -> Request
+    ensures { λ r. ⌜ r ≡ getOf (now (s .entry)) ⌝ }
+{
     let Number::Of(p) = text::word(text::first(s)) else {
         return Request::Unreadable;
     };
     last(text::rest(s), Request::Make(Call::Get(low_word(p))))
 }
 
-fn line_level(c: u8, s: &[u8]) -> Request {
+fn line_level(c: u8, s: &[u8]) -> Request
+    ensures { λ r. ⌜ r ≡ levelOf c (now (s .entry)) ⌝ }
+{
     let level = text::first(s);
     if text::same(level, b"active") {
         return last(text::rest(s), Request::Make(Call::Line(c, true)));
@@ -196,14 +222,18 @@ fn line_level(c: u8, s: &[u8]) -> Request {
     Request::Unreadable
 }
 
-fn line(s: &[u8]) -> Request {
+fn line(s: &[u8]) -> Request
+    ensures { λ r. ⌜ r ≡ lineOf (now (s .entry)) ⌝ }
+{
     let Number::Of(c) = text::channel(text::first(s)) else {
         return Request::Unreadable;
     };
     line_level(low_byte(c), text::rest(s))
 }
 
-fn step(s: &[u8]) -> Request {
+fn step(s: &[u8]) -> Request
+    ensures { λ r. ⌜ r ≡ stepOf (now (s .entry)) ⌝ }
+{
     if s.len() == 0 {
         return Request::Make(Call::Step(false));
     }
@@ -213,21 +243,27 @@ fn step(s: &[u8]) -> Request {
     Request::Unreadable
 }
 
-fn run(s: &[u8]) -> Request {
+fn run(s: &[u8]) -> Request
+    ensures { λ r. ⌜ r ≡ runOf (now (s .entry)) ⌝ }
+{
     let Number::Of(n) = text::decimal(text::first(s)) else {
         return Request::Unreadable;
     };
     last(text::rest(s), Request::Make(Call::Run(n)))
 }
 
-fn limit(space: Space) -> u32 {
+fn limit(space: Space) -> u32
+    ensures { λ r. ⌜ r ≡ limitOf space ⌝ }
+{
     match space {
         Space::Memory => MEMORY,
         Space::Io => IO,
     }
 }
 
-fn lend(space: Space, s: &[u8]) -> Input {
+fn lend(space: Space, s: &[u8]) -> Input
+    ensures { λ r. ⌜ r ≡ lendOf space (now (s .entry)) ⌝ }
+{
     let Number::Of(n) = text::decimal(text::first(s)) else {
         return Input::Ask(Request::Unreadable);
     };
@@ -245,7 +281,9 @@ enum Named {
     Nowhere,
 }
 
-fn space_named(s: &[u8]) -> Named {
+fn space_named(s: &[u8]) -> Named
+    ensures { λ r. ⌜ r ≡ spaceOf (now (s .entry)) ⌝ }
+{
     if text::same(s, b"memory") {
         return Named::In(Space::Memory);
     }
@@ -256,7 +294,9 @@ fn space_named(s: &[u8]) -> Named {
 }
 
 // How many bytes the words of a text are, each put in its place.
-fn bytes_of(s: &[u8], bytes: &mut [u8; 64]) -> Number {
+fn bytes_of(s: &[u8], bytes: &mut [u8; 64]) -> Number
+    ensures { λ r. ⌜ filled r (now (bytes .exit)) ≡ bytesFrom 64 0 (now (s .entry)) (now (bytes .entry)) ⌝ }
+{
     let mut at = 0;
     let mut n: usize = 0;
     while at < s.len() {
@@ -274,7 +314,9 @@ fn bytes_of(s: &[u8], bytes: &mut [u8; 64]) -> Number {
     Number::Of(n as u32)
 }
 
-fn poke(s: &[u8], bytes: &mut [u8; 64]) -> Request {
+fn poke(s: &[u8], bytes: &mut [u8; 64]) -> Request
+    ensures { λ r. ⌜ asked r (now (bytes .exit)) ≡ pokeOf (now (s .entry)) (now (bytes .entry)) ⌝ }
+{
     let Named::In(space) = space_named(text::first(s)) else {
         return Request::Unreadable;
     };
@@ -291,7 +333,9 @@ fn poke(s: &[u8], bytes: &mut [u8; 64]) -> Request {
     Request::Poke(space, at, n as usize)
 }
 
-fn peek(s: &[u8]) -> Request {
+fn peek(s: &[u8]) -> Request
+    ensures { λ r. ⌜ r ≡ peekOf (now (s .entry)) ⌝ }
+{
     let Named::In(space) = space_named(text::first(s)) else {
         return Request::Unreadable;
     };
@@ -310,7 +354,9 @@ fn peek(s: &[u8]) -> Request {
 }
 
 // A line of words; a poke's bytes are put in theirs.
-pub fn read_line(typed: &[u8], bytes: &mut [u8; 64]) -> Input {
+pub fn read_line(typed: &[u8], bytes: &mut [u8; 64]) -> Input
+    ensures { λ r. ⌜ taken r (now (bytes .exit)) ≡ readOf (now (typed .entry)) (now (bytes .entry)) ⌝ }
+{
     let s = text::code(typed);
     if s.len() == 0 {
         return Input::Ask(Request::Nothing);

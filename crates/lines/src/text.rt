@@ -1,6 +1,9 @@
 // The words of a line, and the numbers among them. A part is written `s[0..n]`, of which the check knows the length.
+ghost use mathlib.Core.Path.{_≡_};
 ghost use Prim.Native.Nat.{_≤_};
-ghost use lib.ListN.{length};
+ghost use lib.ListN.{length, drop};
+ghost use Rattle.lines.specs.Words.{isBlank, isOf, leadingOf, codeOf, firstOf, restOf, sameOf};
+ghost use Rattle.lines.specs.Numbers.{worthOf, isDigit, withDigit, numberOf, hexOf, upTo255};
 
 // What is counted at the start of a text.
 enum Kind {
@@ -9,11 +12,15 @@ enum Kind {
     Code,
 }
 
-fn is_blank(b: u8) -> bool {
+fn is_blank(b: u8) -> bool
+    ensures { λ r. ⌜ r ≡ isBlank b ⌝ }
+{
     (b == b' ') | (b == b'\t') | (b == b'\r')
 }
 
-fn is_of(kind: Kind, b: u8) -> bool {
+fn is_of(kind: Kind, b: u8) -> bool
+    ensures { λ r. ⌜ r ≡ isOf kind b ⌝ }
+{
     match kind {
         Kind::Blank => is_blank(b),
         Kind::Word => !is_blank(b),
@@ -23,7 +30,7 @@ fn is_of(kind: Kind, b: u8) -> bool {
 
 // How many bytes of a kind a text starts with.
 fn leading(kind: Kind, s: &[u8]) -> usize
-    ensures { λ r. ⌜ r ≤ length (now (s .entry)) ⌝ }
+    ensures { λ r. ⌜ (r ≤ length (now (s .entry))) × (r ≡ leadingOf kind (now (s .entry))) ⌝ }
 {
     let mut i = 0;
     while i < s.len() {
@@ -36,7 +43,9 @@ fn leading(kind: Kind, s: &[u8]) -> usize
 }
 
 // A line without its comment, from its first word on.
-pub fn code(line: &[u8]) -> &[u8] {
+pub fn code(line: &[u8]) -> &[u8]
+    ensures { λ r. ⌜ now r ≡ codeOf (now (line .entry)) ⌝ }
+{
     let end = leading(Kind::Code, line);
     let s = &line[0..end];
     let n = leading(Kind::Blank, s);
@@ -44,26 +53,32 @@ pub fn code(line: &[u8]) -> &[u8] {
 }
 
 // The word that a text starts with.
-pub fn first(s: &[u8]) -> &[u8] {
+pub fn first(s: &[u8]) -> &[u8]
+    ensures { λ r. ⌜ now r ≡ firstOf (now (s .entry)) ⌝ }
+{
     let n = leading(Kind::Word, s);
     &s[0..n]
 }
 
 // How many bytes stand before the second word.
 pub fn past_first(s: &[u8]) -> usize
-    ensures { λ r. ⌜ r ≤ length (now (s .entry)) ⌝ }
+    ensures { λ r. ⌜ (r ≤ length (now (s .entry))) × (drop r (now (s .entry)) ≡ restOf (now (s .entry))) ⌝ }
 {
     let n = leading(Kind::Word, s);
     n + leading(Kind::Blank, &s[n..])
 }
 
 // What follows the first word, from the next word on.
-pub fn rest(s: &[u8]) -> &[u8] {
+pub fn rest(s: &[u8]) -> &[u8]
+    ensures { λ r. ⌜ now r ≡ restOf (now (s .entry)) ⌝ }
+{
     let n = past_first(s);
     &s[n..]
 }
 
-pub fn same(a: &[u8], b: &[u8]) -> bool {
+pub fn same(a: &[u8], b: &[u8]) -> bool
+    ensures { λ r. ⌜ r ≡ sameOf (now (a .entry)) (now (b .entry)) ⌝ }
+{
     if a.len() != b.len() {
         return false;
     }
@@ -88,7 +103,9 @@ enum Base {
 }
 
 // A digit's worth in either base; 255 where the byte is none.
-fn worth(b: u8) -> u8 {
+fn worth(b: u8) -> u8
+    ensures { λ r. ⌜ r ≡ worthOf b ⌝ }
+{
     if b < b'0' {
         return 255;
     }
@@ -110,7 +127,9 @@ fn worth(b: u8) -> u8 {
     255
 }
 
-fn is_digit(base: Base, d: u8) -> bool {
+fn is_digit(base: Base, d: u8) -> bool
+    ensures { λ r. ⌜ r ≡ isDigit base d ⌝ }
+{
     match base {
         Base::Ten => d < 10,
         Base::Sixteen => d < 16,
@@ -118,7 +137,9 @@ fn is_digit(base: Base, d: u8) -> bool {
 }
 
 // A number beyond 100,000,000 is above every limit and takes no more digits.
-fn with_digit(value: u32, base: Base, d: u8) -> u32 {
+fn with_digit(value: u32, base: Base, d: u8) -> u32
+    ensures { λ r. ⌜ r ≡ withDigit value base d ⌝ }
+{
     if 100_000_000 < value {
         return value;
     }
@@ -128,7 +149,9 @@ fn with_digit(value: u32, base: Base, d: u8) -> u32 {
     }
 }
 
-fn digits_of(base: Base, s: &[u8]) -> Number {
+fn digits_of(base: Base, s: &[u8]) -> Number
+    ensures { λ r. ⌜ r ≡ numberOf base (now (s .entry)) ⌝ }
+{
     if s.len() == 0 {
         return Number::Unreadable;
     }
@@ -146,7 +169,9 @@ fn digits_of(base: Base, s: &[u8]) -> Number {
 }
 
 // A hexadecimal number of at most so many digits.
-fn hexadecimal(s: &[u8], digits: usize) -> Number {
+fn hexadecimal(s: &[u8], digits: usize) -> Number
+    ensures { λ r. ⌜ r ≡ hexOf digits (now (s .entry)) ⌝ }
+{
     if digits < s.len() {
         return Number::Unreadable;
     }
@@ -154,25 +179,35 @@ fn hexadecimal(s: &[u8], digits: usize) -> Number {
 }
 
 // HH, HHHH and AAAAAA of the console's language.
-pub fn byte(s: &[u8]) -> Number {
+pub fn byte(s: &[u8]) -> Number
+    ensures { λ r. ⌜ r ≡ hexOf 2 (now (s .entry)) ⌝ }
+{
     hexadecimal(s, 2)
 }
 
-pub fn word(s: &[u8]) -> Number {
+pub fn word(s: &[u8]) -> Number
+    ensures { λ r. ⌜ r ≡ hexOf 4 (now (s .entry)) ⌝ }
+{
     hexadecimal(s, 4)
 }
 
-pub fn address(s: &[u8]) -> Number {
+pub fn address(s: &[u8]) -> Number
+    ensures { λ r. ⌜ r ≡ hexOf 6 (now (s .entry)) ⌝ }
+{
     hexadecimal(s, 6)
 }
 
 // A decimal of any length.
-pub fn decimal(s: &[u8]) -> Number {
+pub fn decimal(s: &[u8]) -> Number
+    ensures { λ r. ⌜ r ≡ numberOf Base.Ten (now (s .entry)) ⌝ }
+{
     digits_of(Base::Ten, s)
 }
 
 // C of the console's language: a decimal up to 255.
-pub fn channel(s: &[u8]) -> Number {
+pub fn channel(s: &[u8]) -> Number
+    ensures { λ r. ⌜ r ≡ upTo255 (numberOf Base.Ten (now (s .entry))) ⌝ }
+{
     let n = decimal(s);
     match n {
         Number::Unreadable => Number::Unreadable,

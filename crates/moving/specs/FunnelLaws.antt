@@ -5,9 +5,10 @@ use Prim.Native.Nat.{ℕ, _%_, _<_}
 use native.Mathlib.Omega.{arith}
 use Rattle.moving.specs.Funnel.{joined, firstHalf, secondHalf}
 
-pub join-halves : (high : Bool) (word : ℕ) → word < 65536 → joined high (firstHalf high word) (secondHalf high word) ≡ word
-join-halves true word h = omega arith
-join-halves false word h = omega arith
+-- the two bytes of a word, joined again
+pub halves-joined : (high : Bool) (word : ℕ) → word < 65536 → joined high (firstHalf high word % 256) (secondHalf high word % 256) ≡ word
+halves-joined true word h = omega arith
+halves-joined false word h = omega arith
 
 pub first-joined : (high : Bool) (first second : ℕ) → firstHalf high (joined high first second) ≡ first % 256
 first-joined true first second = omega arith

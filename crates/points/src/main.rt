@@ -1,13 +1,13 @@
 // The points of document 01 that are run, and the data sheet's initialization program and reload table (Figures 23 and 24), each
 // compared with what it should be.
 use channel::Channel;
+use commanding::Writing;
+use commanding::Written;
 use controller::Answer;
 use controller::Controller;
 use libc::STDOUT_FILENO;
 use port::Which;
-use registers::Reading;
-use registers::Writing;
-use registers::Written;
+use reading::Reading;
 use space::Direction;
 use space::IoAddress;
 use space::MemoryAddress;
@@ -79,7 +79,7 @@ fn say(what: &[u8], right: bool) {
 }
 
 fn write_at(u: Controller, pointer: u16, w: u16) -> Written {
-    registers::write(w, registers::write_pointer(u, pointer))
+    writing::write(w, reading::write_pointer(u, pointer))
 }
 
 fn state_after(u: Controller, pointer: u16, w: u16) -> Controller {
@@ -101,7 +101,7 @@ fn is_write_refused(u: Controller, pointer: u16, w: u16, n: u8) -> bool {
 }
 
 fn is_read_refused(u: Controller, n: u8) -> bool {
-    let a = registers::read(u);
+    let a = reading::read(u);
     match a {
         Reading::Refused(m) => m == n,
         Reading::Value(_) => false,
@@ -110,10 +110,8 @@ fn is_read_refused(u: Controller, n: u8) -> bool {
 
 // Pointer 00FFh reads 007Eh, and its register is refused by 1 in both directions.
 fn is_pointer_right() -> bool {
-    let u = registers::write_pointer(udc::fresh(), 0x00FF);
-    (registers::read_pointer(u) == 0x007E)
-        & is_read_refused(u, 1)
-        & is_write_refused(u, 0x00FF, 0, 1)
+    let u = reading::write_pointer(udc::fresh(), 0x00FF);
+    (reading::read_pointer(u) == 0x007E) & is_read_refused(u, 1) & is_write_refused(u, 0x00FF, 0, 1)
 }
 
 fn put_word(memory: &mut [u8], io: &mut [u8], p: Place, w: u16) {
@@ -196,7 +194,7 @@ fn is_match_right() -> bool {
     store_words(memory, io, Place::Memory(MemoryAddress(0x0100)), &SEARCH);
     put_word(memory, io, Place::Memory(MemoryAddress(0x0200)), 0x1111);
     put_word(memory, io, Place::Memory(MemoryAddress(0x0202)), 0x1234);
-    let r = udc::run(started(1, 0x0100), 9, memory, io);
+    let r = running::run(started(1, 0x0100), 9, memory, io);
     let first = r.answer;
     let u = r.state;
     let s = u.step(false, memory, io);
@@ -226,7 +224,7 @@ fn is_loaded(c: Channel) -> bool {
 
 // The 18 words of the table are fetched, the note given back, and the channel waits for its line.
 fn is_chain_right(u: Controller, memory: &mut [u8], io: &mut [u8]) -> bool {
-    let r = udc::run(u, 100, memory, io);
+    let r = running::run(u, 100, memory, io);
     let a = r.answer;
     let next = r.state;
     (r.steps == 19) & is_idle(a) & is_loaded(next.one)
@@ -234,11 +232,11 @@ fn is_chain_right(u: Controller, memory: &mut [u8], io: &mut [u8]) -> bool {
 
 // With its line active the channel moves 16 words of I/O in demand hold and ends by TC.
 fn is_block_right(u: Controller, memory: &mut [u8], io: &mut [u8]) -> bool {
-    let r = udc::run(u, 19, memory, io);
+    let r = running::run(u, 19, memory, io);
     let waiting = r.state;
     let l = udc::line(1, true, waiting);
     let active = l.state;
-    let moved = udc::run(active, 16, memory, io);
+    let moved = running::run(active, 16, memory, io);
     let a = moved.answer;
     let c = moved.state;
     is_unit(a, true, false)

@@ -6,18 +6,18 @@ use Prim.Native.Nat.{ℕ}
 use Rattle.space.specs.Space.{Spaces, spaces}
 use Rattle.controller.specs.declared.Stepped.{Stepped}
 use Rattle.controller.specs.Step.{Outcome, outcome}
-use Rattle.udc.specs.declared.Ran.{Ran}
-use Rattle.udc.specs.Run.{RunOutcome, ranAs}
+use Rattle.running.specs.declared.Ran.{Ran}
+use Rattle.running.specs.Run.{RunOutcome, ranAs}
 use Rattle.controller.proofs.Controller.reset.Reads as reset
 use Rattle.controller.proofs.Controller.step.Reads as step
-use Rattle.registers.proofs.read_pointer.Reads as pointer-read
-use Rattle.registers.proofs.write_pointer.Reads as pointer-write
-use Rattle.registers.proofs.read.Reads as register-read
-use Rattle.registers.proofs.write.Reads as register-write
+use Rattle.reading.proofs.read_pointer.Reads as pointer-read
+use Rattle.reading.proofs.write_pointer.Reads as pointer-write
+use Rattle.reading.proofs.read.Reads as register-read
+use Rattle.writing.proofs.write.Reads as register-write
 use Rattle.udc.proofs.fresh.Reads as fresh
 use Rattle.udc.proofs.line.Reads as line
 use Rattle.udc.proofs.acknowledge.Reads as acknowledge
-use Rattle.udc.proofs.run.Reads as run
+use Rattle.running.proofs.run.Reads as run
 
 -- the argument, once: both are what the definition gives
 both : {A : Type 0} {x y d : A} → x ≡ d → y ≡ d → x ≡ y

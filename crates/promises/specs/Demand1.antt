@@ -30,34 +30,37 @@ use Rattle.channel.specs.declared.Channel.{Channel}
 use Rattle.channel.specs.Request.{requests, isCandidate}
 use Rattle.chain.specs.declared.Stage.{Stage}
 use Rattle.chain.specs.declared.Stage.the-variants.{Reload, Entries}
-use Rattle.controller.specs.declared.Chain.{Chain}
-use Rattle.controller.specs.declared.Chain.the-variants.{NoChain}
-use Rattle.controller.specs.declared.Chain.the-variants as chain
-use Rattle.controller.specs.declared.Bus.{Bus}
-use Rattle.controller.specs.declared.Bus.the-variants.{Free, Kept}
-use Rattle.controller.specs.declared.Turn.{Turn}
-use Rattle.controller.specs.declared.Turn.the-variants.{Nobodys, Whose}
+use Rattle.control.specs.declared.Chain.{Chain}
+use Rattle.control.specs.declared.Chain.the-variants.{NoChain}
+use Rattle.control.specs.declared.Chain.the-variants as chain
+use Rattle.control.specs.declared.Bus.{Bus}
+use Rattle.control.specs.declared.Bus.the-variants.{Free, Kept}
+use Rattle.control.specs.declared.Turn.{Turn}
+use Rattle.control.specs.declared.Turn.the-variants.{Nobodys, Whose}
 use Rattle.controller.specs.declared.Controller.{Controller}
-use Rattle.controller.specs.declared.Choice.{Choice}
-use Rattle.controller.specs.declared.Choice.the-variants as chosen
+use Rattle.control.specs.declared.Choice.{Choice}
+use Rattle.control.specs.declared.Choice.the-variants as chosen
 use Rattle.controller.specs.declared.Answer.{Answer}
 use Rattle.controller.specs.declared.Answer.the-variants as answer
 use Rattle.controller.specs.Answers.{Paper, paper, none}
 use Rattle.controller.specs.Controller.{at}
-use Rattle.controller.specs.Choice.{isEnabled, fetchBy, unitBy, keeperBy, keeper, beginBy, begins, turnBy, interleaves, candidateBy, candidate, choiceBy, choice}
+use Rattle.controller.specs.StepLaws.{refused-keeps}
+use Rattle.controller.specs.Choice.{keeper, begins, interleaves, candidateBy, candidate, choiceBy, choice}
+use Rattle.control.specs.Rules.{isEnabled, fetchBy, unitBy, keeperBy, beginBy, turnBy}
 use Rattle.controller.specs.Fetching.{fetchOf}
 use Rattle.controller.specs.Step.{Outcome, outcome, says, unitOf, holdOf, performOf, stepOf}
-use Rattle.registers.specs.declared.Reading.{Reading}
-use Rattle.registers.specs.declared.Written.{Written}
-use Rattle.registers.specs.Reading.{readBy, readOf, isOther}
-use Rattle.registers.specs.Commands.{refuses, takes, isBusy, cannotChain, carriedOut, isReset, commandedBy, commanded}
-use Rattle.registers.specs.Writing.{isCommand, storedBy, masterBy, writeBy, writeOf}
-use Rattle.registers.specs.Answers.{PaperRead, paperRead, paperWrite}
+use Rattle.reading.specs.declared.Reading.{Reading}
+use Rattle.commanding.specs.declared.Written.{Written}
+use Rattle.reading.specs.Reading.{readBy, readOf, isOther}
+use Rattle.commanding.specs.Commands.{refuses, takes, isBusy, cannotChain, carriedOut, isReset, commandedBy, commanded}
+use Rattle.writing.specs.Writing.{isCommand, storedBy, masterBy, writeBy, writeOf}
+use Rattle.reading.specs.Answers.{PaperRead, paperRead}
+use Rattle.commanding.specs.Answers.{paperWrite}
 use Rattle.udc.specs.declared.Lined.{Lined}
 use Rattle.udc.specs.declared.Acknowledged.{Acknowledged}
 use Rattle.udc.specs.Lines.{linedAt}
 use Rattle.udc.specs.Acknowledge.{interrupts, isVectorless, answered, acknowledgedAt, acknowledgeBy, acknowledgeOf}
-use Rattle.udc.specs.Run.{RunOutcome, stops, next, runFrom, runOf}
+use Rattle.running.specs.Run.{RunOutcome, stops, next, runFrom, runOf}
 use Rattle.udc.specs.Answers.{paperLine, PaperAck, paperAck}
 
 -- ---- refusals in order
@@ -426,7 +429,7 @@ rules-table true NoChain false Free u = turn-table (candidates u) u
 quiet-choice : (c : Choice) (eop : Bool) (u : Controller) (z : Spaces) → refusal c ≢ 0 → performOf c eop u z ≡ outcome (says u (answer.Refused (refusal c))) z
 unfolding performOf
 quiet-choice chosen.Disabled eop u z h = absurd (h refl)
-quiet-choice (chosen.Refused n) eop u z h = refl
+quiet-choice (chosen.Refused n) eop u z h = refused-keeps n eop u z
 quiet-choice (chosen.Fetch w s) eop u z h = absurd (h refl)
 quiet-choice chosen.GiveBack eop u z h = absurd (h refl)
 quiet-choice (chosen.Unit w) eop u z h = absurd (h refl)

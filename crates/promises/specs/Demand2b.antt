@@ -34,17 +34,21 @@ use Rattle.mode.specs.Reasons.{some}
 use Rattle.unit.specs.declared.Moved.{Moved}
 use Rattle.unit.specs.Unit.{bytes, readsOf, valueOf, datumOf, datumAt, storedAt, compared, steppedSet, movedOf, worked}
 use Rattle.channel.specs.declared.Channel.{Channel}
+use Rattle.channel.specs.EndingLaws.{ends-exactly}
 use Rattle.channel.specs.Ending.{movedBy, reasonsOf, spent, unendedBy, unended, afterBy, afterUnit}
-use Rattle.controller.specs.declared.Chain.{Chain}
-use Rattle.controller.specs.declared.Control.{Control}
-use Rattle.controller.specs.declared.Choice.{Choice}
-use Rattle.controller.specs.declared.Choice.the-variants as chosen
+use Rattle.control.specs.declared.Chain.{Chain}
+use Rattle.control.specs.declared.Control.{Control}
+use Rattle.control.specs.declared.Choice.{Choice}
+use Rattle.control.specs.declared.Choice.the-variants as chosen
+use Rattle.controller.specs.declared.Answer.{Answer}
+use Rattle.controller.specs.declared.Answer.the-variants as told
 use Rattle.controller.specs.Controller.{at, with}
-use Rattle.controller.specs.Choice.{isInterleaved}
-use Rattle.controller.specs.Step.{workOf, controlBy, unitOf, performOf, stepOf}
+use Rattle.control.specs.Rules.{isInterleaved}
+use Rattle.controller.specs.Step.{workOf, unitOf, performOf, stepOf}
+use Rattle.control.specs.After.{controlBy}
 use Rattle.port.specs.declared.Which.{Which}
 use Rattle.port.specs.declared.Which.the-variants.{One, Two}
-use Rattle.promises.specs.Machine.{Machine, step, next-choice, channel, unit-reads, unit-writes}
+use Rattle.promises.specs.Machine.{Machine, step, answer, next-choice, channel, unit-reads, unit-writes}
 use Rattle.promises.specs.Own.{owns, fetches, spares, unfetched, chain-of, Left, by, rest-of, Away, others-keep}
 
 -- ---- stretches
@@ -94,6 +98,11 @@ made w m = worked (workOf (channel w m)) (m .spaces) .moved
 pub unit-step : (w : Which) (m : Machine) → owns w (next-choice m) ≡ true → step m ≡ by (chosen.Unit w) m
 unit-step w m e = step-by m ∙ ap (λ (c : Choice). by c m) (owns-unit w (next-choice m) e)
 
+-- the answer of a unit has the end reasons that the unit has
+pub unit-answer : (w : Which) (m : Machine) → owns w (next-choice m) ≡ true → answer m ≡ told.Unit w (reasonsOf (made w m) false)
+unfolding stepOf performOf unitOf
+unit-answer w m e = ap (λ (c : Choice). performOf c false (m .controller) (m .spaces) .stepped .answer) (owns-unit w (next-choice m) e)
+
 pub unit-left : (w : Which) (m : Machine) → channel w (by (chosen.Unit w) m) ≡ afterUnit w false (made w m) (channel w m) .channel
 unfolding performOf unitOf at with
 unit-left One m = refl
@@ -115,11 +124,6 @@ unended-chain w Single cpu chains k = refl
 unended-chain w DemandHold cpu chains k = refl
 unended-chain w DemandRelease cpu chains k = refl
 unended-chain w DemandInterleave cpu chains k = refl
-
-pub none-of : (mc tc : Bool) → (mc || tc) ≡ false → ((tc || mc) || false) ≡ false
-none-of true tc e = absurd (true≢false e)
-none-of false true e = absurd (true≢false e)
-none-of false false e = refl
 
 -- ---- what an unended unit leaves of the other registers
 
@@ -204,6 +208,18 @@ prog = record { reads = λ r. unit-reads (r .channel); writes = λ r. unit-write
 
 abbrev pub ends-of : Moved → Ends
 ends-of x = record { mc = x .compared .met; tc = x .tc }
+
+-- the answer of channel w's unit that ends so
+abbrev pub answered : Which → Ends → Answer
+answered w e = told.Unit w (record { tc = e .tc; mc = e .mc; eop = false })
+
+none-ended : (e : Ends) → ended e ≡ false → e ≡ record { mc = false; tc = false }
+none-ended e h = go (e .mc) (e .tc) h
+  where
+    go : (mc tc : Bool) → (mc || tc) ≡ false → _≡_ {A = Ends} (record { mc = mc; tc = tc }) (record { mc = false; tc = false })
+    go true tc q = absurd (true≢false q)
+    go false true q = absurd (true≢false q)
+    go false false q = refl
 
 abbrev pub seen : Which → Seen Machine Held
 seen w = record { step = step; mine = λ m. owns w (next-choice m); ends = λ m. ends-of (made w m); reg = held w; spaces = λ m. m .spaces }
@@ -315,7 +331,7 @@ module _ (w : Which) (d : Width) (a : Address) (n pattern mask control : ℕ) (f
   looking m u k b h = record {
     steady = record {
       goes = λ e f c. subst (λ (x : Machine). At (suc k) (held w x)) (sym (unit-step w m e))
-          (next-at k m b h (none-of (made w m .compared .met) (made w m .tc) f));
+          (next-at k m b h (ends-exactly (made w m) ∙ f));
       rest = λ e. subst (λ (x : Machine). At k (held w x)) (sym (step-by m)) (rest-at k m h e);
     };
     kept = kept-by k m h u (owns w (next-choice m)) refl;
@@ -367,27 +383,30 @@ module _ (w : Which) (d : Width) (a : Address) (n pattern mask control : ℕ) (f
   unfolding worked movedOf steppedSet
   count-made k m b h = ap fewer (h .count) ∙ fewer-left n k fits b
 
-  -- Number `done` of the channel's units, at step i. While it is no more than `stop`: before `stop` it has no end reasons, and at
-  -- `stop` it has exactly MC if and only if its datum meets the condition, and TC if and only if it is the last of n; the unit then
+  -- Number `done` of the channel's units, at step i, as the step answers it. While it is no more than `stop`: before `stop` it has no end
+  -- reasons, and at `stop` it has exactly MC if and only if its datum meets the condition, and TC if and only if it is the last of n; the unit then
   -- leaves the count at n - 1 - stop
   pub record Searched (stop i : ℕ) (m : Machine) : Type 0 where
-    pub going : done (seen w) i m < stop → ended (ends-of (made w (iter step i m))) ≡ false
+    pub going : done (seen w) i m < stop → answer (iter step i m) ≡ answered w (record { mc = false; tc = false })
     pub reasons : done (seen w) i m ≡ stop
-        → ends-of (made w (iter step i m)) ≡ record { mc = meets place condition (m .spaces) stop; tc = eqb (suc stop) n }
+        → answer (iter step i m) ≡ answered w (record { mc = meets place condition (m .spaces) stop; tc = eqb (suc stop) n })
     pub stops : done (seen w) i m ≡ stop → ended (ends-of (made w (iter step i m))) ≡ true
     pub count : done (seen w) i m ≡ stop → made w (iter step i m) .set .count ≡ (n - suc stop) % 65536
 
   pub demand2b : (stop i : ℕ) (m : Machine) → First (meets place condition (m .spaces)) n stop → At zero (held w m)
       → Every step (Away w (Area n place)) (suc i) m → owns w (next-choice (iter step i m)) ≡ true → done (seen w) i m ≤ stop → Searched stop i m
   demand2b stop i m f h u e b = record {
-    going = x .before;
-    reasons = λ q. x .reasons ∙ ap (outcome (meets place condition (m .spaces)) n) q;
+    going = λ b. said ∙ ap (answered w) (none-ended (ends-of (made w (iter step i m))) (x .before b));
+    reasons = λ q. said ∙ ap (answered w) (x .reasons ∙ ap (outcome (meets place condition (m .spaces)) n) q);
     stops = x .at;
     count = λ q. counted ∙ ap (λ (k : ℕ). (n - suc k) % 65536) q;
   }
     where
       x : Found (seen w) (meets place condition (m .spaces)) n stop i m
       x = found stop i m f h u (still-going stop i m f h (every-init step (Away w (Area n place)) i m u) b) e
+
+      said : answer (iter step i m) ≡ answered w (ends-of (made w (iter step i m)))
+      said = unit-answer w (iter step i m) e
 
       q : Every step (Unended (seen w)) i m
       q = still-going stop i m f h (every-init step (Away w (Area n place)) i m u) b

@@ -34,16 +34,18 @@ use Rattle.mode.specs.Mode.{operationOf, isFlipped, requestModeOf}
 use Rattle.mode.specs.Reasons.{some}
 use Rattle.unit.specs.Unit.{bytes, readsOf, writesOf, datumOf, writtenOf, datumAt, compared, steppedSet, movedOf, worked}
 use Rattle.channel.specs.declared.Channel.{Channel}
+use Rattle.channel.specs.EndingLaws.{ends-exactly}
 use Rattle.channel.specs.Ending.{reasonsOf, afterUnit}
-use Rattle.controller.specs.declared.Control.{Control}
-use Rattle.controller.specs.declared.Choice.{Choice}
-use Rattle.controller.specs.declared.Choice.the-variants as chosen
-use Rattle.controller.specs.Choice.{isInterleaved}
-use Rattle.controller.specs.Step.{workOf, controlBy, performOf, stepOf}
+use Rattle.control.specs.declared.Control.{Control}
+use Rattle.control.specs.declared.Choice.{Choice}
+use Rattle.control.specs.declared.Choice.the-variants as chosen
+use Rattle.control.specs.Rules.{isInterleaved}
+use Rattle.controller.specs.Step.{workOf, performOf, stepOf}
+use Rattle.control.specs.After.{controlBy}
 use Rattle.port.specs.declared.Which.{Which}
 use Rattle.promises.specs.Machine.{Machine, step, next-choice, channel, unit, unit-reads, unit-writes, unit-spaces}
 use Rattle.promises.specs.Own.{owns, spares, unfetched, Left, by, rest-of, Away, others-keep}
-use Rattle.promises.specs.Demand2b.{Held, held, prog, seen, ends-of, made, step-by, unit-step, unit-left, control-left, control-after, unended-chain, none-of, Goes, goes-after, current-after, steps, after-grows}
+use Rattle.promises.specs.Demand2b.{Held, held, prog, seen, ends-of, made, step-by, unit-step, unit-left, control-left, control-after, unended-chain, Goes, goes-after, current-after, steps, after-grows}
 use Rattle.promises.specs.Paced.{line, stands, place-is}
 
 -- no step changes the sizes of the spaces
@@ -157,7 +159,7 @@ module _ (w : Which) (flip : Bool) (bytes-at words-at : Address) (n : ℕ) (fits
   steady : (k : ℕ) (m : Machine) → k < n → At k (held w m) → Steady (seen w) n At k m
   unfolding some
   steady k m b h = record {
-    goes = λ e f c. subst (λ (x : Machine). At (suc k) (held w x)) (sym (unit-step w m e)) (next-at k m b h (none-of (made w m .compared .met) (made w m .tc) f));
+    goes = λ e f c. subst (λ (x : Machine). At (suc k) (held w x)) (sym (unit-step w m e)) (next-at k m b h (ends-exactly (made w m) ∙ f));
     rest = λ e. subst (λ (x : Machine). At k (held w x)) (sym (step-by m)) (rest-at k m h e);
   }
 

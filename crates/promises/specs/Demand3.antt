@@ -23,23 +23,27 @@ use Rattle.unit.specs.Unit.{unitRefusal, worked}
 use Rattle.channel.specs.declared.Channel.{Channel}
 use Rattle.channel.specs.Request.{requests, isCandidate}
 use Rattle.channel.specs.Ending.{movedBy, reasonsOf, unended, unendedBy, afterBy, afterUnit}
-use Rattle.controller.specs.declared.Chain.{Chain}
-use Rattle.controller.specs.declared.Chain.the-variants.{NoChain}
-use Rattle.controller.specs.declared.Bus.{Bus}
-use Rattle.controller.specs.declared.Bus.the-variants.{Free}
-use Rattle.controller.specs.declared.Served.{Served}
-use Rattle.controller.specs.declared.Served.the-variants.{Nobody, Last}
+use Rattle.control.specs.declared.Chain.{Chain}
+use Rattle.control.specs.declared.Chain.the-variants.{NoChain}
+use Rattle.control.specs.declared.Bus.{Bus}
+use Rattle.control.specs.declared.Bus.the-variants.{Free}
+use Rattle.control.specs.declared.Served.{Served}
+use Rattle.control.specs.declared.Served.the-variants.{Nobody, Last}
 use Rattle.controller.specs.declared.Controller.{Controller}
-use Rattle.controller.specs.declared.Choice.{Choice}
-use Rattle.controller.specs.declared.Choice.the-variants as chosen
+use Rattle.control.specs.declared.Choice.{Choice}
+use Rattle.control.specs.declared.Choice.the-variants as chosen
 use Rattle.controller.specs.declared.Answer.{Answer}
 use Rattle.controller.specs.declared.Answer.the-variants as answer
-use Rattle.controller.specs.declared.Control.{Control}
+use Rattle.control.specs.declared.Control.{Control}
 use Rattle.controller.specs.declared.Back.the-variants.{Note, Bus as TheBus}
 use Rattle.controller.specs.Answers.{none}
 use Rattle.controller.specs.Controller.{at, with}
-use Rattle.controller.specs.Choice.{isEnabled, isInterleaved, unitBy, beginBy, begins, turnBy, isInterleave, interleaves, candidateBy, candidate, choiceBy, choice}
-use Rattle.controller.specs.Step.{Outcome, workOf, unendedControl, controlBy, unitOf, performOf, stepOf}
+use Rattle.control.specs.declared.Turn.{Turn as Whoever}
+use Rattle.control.specs.Turns.{next-up, takes-turns}
+use Rattle.controller.specs.Choice.{begins, interleaves, candidateBy, candidate, choiceBy, choice}
+use Rattle.control.specs.Rules.{isEnabled, isInterleaved, unitBy, beginBy, turnBy, isInterleave}
+use Rattle.controller.specs.Step.{Outcome, workOf, unitOf, performOf, stepOf}
+use Rattle.control.specs.After.{unendedControl, controlBy}
 use Rattle.promises.specs.Machine.{Machine, left, outcomeOf, step, answer, next-choice, channel, unit, unit-channel, unit-spaces}
 
 -- ---- what the stretch starts with
@@ -118,12 +122,6 @@ begins-ready : (w : Which) (c : Channel) → Ready c → begins w c ≡ unitBy (
 unfolding begins refusal
 begins-ready w c h = λ i. beginBy (h .pending i) (Rattle.tag.specs.Address.isOdd (c .chain)) (unitRefusal (c .mode) (c .current)) w
 
--- the channel not served last, channel 1 if none
-abbrev next-up : Served → Which
-next-up Nobody = One
-next-up (Last One) = Two
-next-up (Last Two) = One
-
 abbrev expected : Bool → Served → Controller → Choice
 expected true s u = chosen.GiveBack
 expected false s u = unitBy (refusal (at (next-up s) u)) (next-up s)
@@ -131,9 +129,11 @@ expected false s u = unitBy (refusal (at (next-up s) u)) (next-up s)
 module _ (m : Machine) (h : Start m) where
   turned : (s : Served) → candidateBy (turnBy true true true s) (m .controller) ≡ expected false s (m .controller)
   unfolding at
-  turned Nobody = begins-ready One (m .controller .one) (h .one)
-  turned (Last One) = begins-ready Two (m .controller .two) (h .two)
-  turned (Last Two) = begins-ready One (m .controller .one) (h .one)
+  turned s = ap (λ (t : Whoever). candidateBy t (m .controller)) (takes-turns s) ∙ ready (next-up s)
+    where
+      ready : (w : Which) → begins w (at w (m .controller)) ≡ unitBy (refusal (at w (m .controller))) w
+      ready One = begins-ready One (m .controller .one) (h .one)
+      ready Two = begins-ready Two (m .controller .two) (h .two)
 
   candidates : candidate (m .controller) ≡ candidateBy (turnBy true true true (m .controller .control .served)) (m .controller)
   unfolding candidate

@@ -27,9 +27,9 @@ use Rattle.moving.specs.Comparison.{comparison}
 use Rattle.unit.specs.Unit.{oddWord, unitRefusal, datumAt, storedAt, compared, steppedSet, movedOf, worked}
 use Rattle.channel.specs.Request.{requests, isCandidate}
 use Rattle.channel.specs.Ending.{movedBy, unended, afterUnit}
-use Rattle.controller.specs.declared.Chain.the-variants.{NoChain}
-use Rattle.controller.specs.declared.Bus.the-variants.{Free}
-use Rattle.controller.specs.declared.Served.the-variants.{Nobody}
+use Rattle.control.specs.declared.Chain.the-variants.{NoChain}
+use Rattle.control.specs.declared.Bus.the-variants.{Free}
+use Rattle.control.specs.declared.Served.the-variants.{Nobody}
 use Rattle.controller.specs.declared.Controller.{Controller}
 use Rattle.controller.specs.Controller.{at, with}
 use Rattle.controller.specs.Choice.{keeper, begins, interleaves, candidate, choice}

@@ -6,16 +6,17 @@ use mathlib.Core.List.{List, [], _∷_}
 use Prim.Native.Nat.{ℕ}
 use Rattle.space.specs.declared.Place.{Place}
 use Rattle.space.specs.Space.{Spaces}
-use Rattle.laws.specs.Local.{Prog, Write, gets, puts, exec, stores, writing, puts-writing}
+use Rattle.laws.specs.Local.{Prog, Write, gets, exec}
 use Rattle.port.specs.declared.Which.{Which}
 use Rattle.port.specs.declared.Which.the-variants.{One, Two}
 use Rattle.mode.specs.Mode.{operationOf, isFlipped}
-use Rattle.unit.specs.Unit.{bytes, readsOf, writesOf, datumOf, writtenOf, datumAt, storedAt, movedOf, worked}
+use Rattle.unit.specs.Unit.{bytes, readsOf, datumOf, datumAt, movedOf, worked}
+use Rattle.unit.specs.Laws.{writesBy, writes-exactly}
 use Rattle.channel.specs.declared.Channel.{Channel}
 use Rattle.channel.specs.Ending.{afterUnit}
 use Rattle.controller.specs.declared.Controller.{Controller}
 use Rattle.controller.specs.declared.Answer.{Answer}
-use Rattle.controller.specs.declared.Choice.{Choice}
+use Rattle.control.specs.declared.Choice.{Choice}
 use Rattle.controller.specs.Controller.{at}
 use Rattle.controller.specs.Choice.{choice}
 use Rattle.controller.specs.Step.{Outcome, workOf, stepOf}
@@ -48,14 +49,11 @@ channel w m = at w (m .controller)
 abbrev pub unit-reads : Channel → List Place
 unit-reads c = bytes (readsOf (operationOf (c .mode)) (isFlipped (c .mode)) (c .current))
 
-abbrev pub unit-places : Channel → List Place
-unit-places c = bytes (writesOf (operationOf (c .mode)) (isFlipped (c .mode)) (c .current))
-
 abbrev pub datum : Channel → List ℕ → ℕ
 datum c d = datumOf (operationOf (c .mode)) (isFlipped (c .mode)) (c .current) d
 
 abbrev pub unit-writes : Channel → List Write
-unit-writes c = writing 0 (unit-places c) (λ d. writtenOf (operationOf (c .mode)) (isFlipped (c .mode)) (c .current) (datum c d))
+unit-writes c = writesBy (operationOf (c .mode)) (isFlipped (c .mode)) (c .current)
 
 abbrev pub unit : Which → Prog Channel
 unit w = record {
@@ -71,5 +69,5 @@ unit-channel w c z = refl
 
 -- .. and the same spaces
 pub unit-spaces : (w : Which) (c : Channel) (z : Spaces) → exec (unit w) c z .spaces ≡ worked (workOf c) z .spaces
-unfolding worked datumAt storedAt
-unit-spaces w c z = puts-writing 0 (unit-places c) (λ d. writtenOf (operationOf (c .mode)) (isFlipped (c .mode)) (c .current) (datum c d)) (gets z (unit-reads c)) z
+unfolding worked datumAt
+unit-spaces w c z = writes-exactly (operationOf (c .mode)) (isFlipped (c .mode)) (c .current) (gets z (unit-reads c)) z

@@ -25,22 +25,25 @@ use Rattle.chain.specs.declared.Stage.{Stage}
 use Rattle.chain.specs.declared.Stage.the-variants.{Reload, Entries}
 use Rattle.chain.specs.declared.Next.{Next}
 use Rattle.chain.specs.declared.Next.the-variants.{More, Complete}
-use Rattle.controller.specs.declared.Chain.{Chain}
-use Rattle.controller.specs.declared.Chain.the-variants.{NoChain, Of}
-use Rattle.controller.specs.declared.Bus.{Bus}
-use Rattle.controller.specs.declared.Bus.the-variants.{Free, Kept}
-use Rattle.controller.specs.declared.Served.{Served}
-use Rattle.controller.specs.declared.Turn.{Turn}
-use Rattle.controller.specs.declared.Turn.the-variants.{Nobodys, Whose}
-use Rattle.controller.specs.declared.Control.{Control}
+use Rattle.control.specs.declared.Chain.{Chain}
+use Rattle.control.specs.declared.Chain.the-variants.{NoChain, Of}
+use Rattle.control.specs.declared.Bus.{Bus}
+use Rattle.control.specs.declared.Bus.the-variants.{Free, Kept}
+use Rattle.control.specs.declared.Served.{Served}
+use Rattle.control.specs.declared.Turn.{Turn}
+use Rattle.control.specs.declared.Turn.the-variants.{Nobodys, Whose}
+use Rattle.control.specs.declared.Control.{Control}
 use Rattle.controller.specs.declared.Controller.{Controller}
-use Rattle.controller.specs.declared.Choice.{Choice}
-use Rattle.controller.specs.declared.Choice.the-variants as chosen
+use Rattle.control.specs.declared.Choice.{Choice}
+use Rattle.control.specs.declared.Choice.the-variants as chosen
 use Rattle.controller.specs.Controller.{at, with}
-use Rattle.controller.specs.Choice.{isEnabled, isInterleaved, fetchBy, unitBy, keeperBy, keeper, beginBy, begins, turnBy, candidateBy, candidate, choiceBy, choice, interleaves}
-use Rattle.controller.specs.Fetching.{controlFetched, fetchOf}
-use Rattle.controller.specs.Step.{workOf, controlBy, unitOf, holdOf, performOf, stepOf}
-use Rattle.promises.specs.Machine.{Machine, left, step, next-choice, channel, unit, unit-writes, unit-places, unit-reads, unit-spaces}
+use Rattle.controller.specs.Choice.{keeper, begins, candidateBy, candidate, choiceBy, choice, interleaves}
+use Rattle.control.specs.Rules.{isEnabled, isInterleaved, fetchBy, unitBy, keeperBy, beginBy, turnBy}
+use Rattle.controller.specs.Fetching.{fetchOf}
+use Rattle.control.specs.After.{controlFetched}
+use Rattle.controller.specs.Step.{workOf, unitOf, holdOf, performOf, stepOf}
+use Rattle.control.specs.After.{controlBy}
+use Rattle.promises.specs.Machine.{Machine, left, step, next-choice, channel, unit, unit-writes, unit-reads, unit-spaces}
 
 abbrev pub other : Which → Which
 other One = Two

@@ -27,8 +27,8 @@ use Rattle.channel.specs.Set.{_⟨interrupt≔_⟩, _⟨cie≔_⟩}
 use Rattle.channel.specs.Ending.{withIp}
 use Rattle.controller.specs.declared.Controller.{Controller}
 use Rattle.controller.specs.Controller.{at, with}
-use Rattle.registers.specs.Commands.{takes, isBusy, commandedBy, commanded}
-use Rattle.registers.specs.Writing.{writeBy, writeOf}
+use Rattle.commanding.specs.Commands.{takes, isBusy, commandedBy, commanded}
+use Rattle.writing.specs.Writing.{writeBy, writeOf}
 
 -- the count and TC that a unit leaves of a count
 abbrev pub counted : ℕ → Work → Work

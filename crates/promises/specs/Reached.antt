@@ -5,19 +5,19 @@ use Prim.Native.Nat.{ℕ}
 use Rattle.space.specs.Space.{Spaces}
 use Rattle.port.specs.declared.Which.{Which}
 use Rattle.chain.specs.declared.Stage.{Stage}
-use Rattle.controller.specs.declared.Chain.{Chain}
-use Rattle.controller.specs.declared.Chain.the-variants.{NoChain, Of}
-use Rattle.controller.specs.declared.Bus.{Bus}
-use Rattle.controller.specs.declared.Bus.the-variants.{Free, Kept}
+use Rattle.control.specs.declared.Chain.{Chain}
+use Rattle.control.specs.declared.Chain.the-variants.{NoChain, Of}
+use Rattle.control.specs.declared.Bus.{Bus}
+use Rattle.control.specs.declared.Bus.the-variants.{Free, Kept}
 use Rattle.controller.specs.declared.Controller.{Controller}
 use Rattle.controller.specs.Controller.{at, resetOf}
 use Rattle.controller.specs.Step.{stepOf}
-use Rattle.controller.specs.Choice.{isEnabled}
-use Rattle.registers.specs.Writing.{writeOf}
-use Rattle.registers.specs.Reading.{pointed}
+use Rattle.control.specs.Rules.{isEnabled}
+use Rattle.writing.specs.Writing.{writeOf}
+use Rattle.reading.specs.Reading.{pointed}
 use Rattle.udc.specs.Lines.{noChannel, freshOf, linedAt}
 use Rattle.udc.specs.Acknowledge.{acknowledgeOf}
-use Rattle.udc.specs.Run.{runOf}
+use Rattle.running.specs.Run.{runOf}
 use Rattle.promises.specs.WellFormed.{Tidy, Owner, Keeper, Owned, WellFormed}
 use Rattle.promises.specs.WellChannel.{reset-sound}
 use Rattle.promises.specs.WellCalls.{reset-well, pointed-well, write-well, line-well, acknowledge-well}

@@ -16,7 +16,7 @@ use Rattle.controller.specs.declared.Back.the-variants.{Note, Bus}
 use Rattle.controller.specs.declared.Answer.the-variants.{Refused, Disabled, Idle, GivenBack, Holding, Fetched, Dropped, Unit, Ended}
 use Rattle.controller.specs.Answers.{paper}
 use Rattle.controller.specs.Step.{Outcome, outcome, says, stepOf}
-use Rattle.udc.specs.Run.{RunOutcome, stops, next, runFrom, runOf}
+use Rattle.running.specs.Run.{RunOutcome, stops, next, advanced, runFrom, runOf}
 use Rattle.promises.specs.Machine.{Machine, left, outcomeOf, step, answer}
 use Rattle.promises.specs.Demand1.{firstOf, intent, oddStart, notCarried, oddSide}
 use Rattle.promises.specs.Demand1 as demand1
@@ -58,7 +58,7 @@ going-on (Unit w why) e = refl
 going-on (Ended w) e = refl
 
 ran-from : (n k : ℕ) (o : Outcome) → paper (o .stepped .answer) .number ≡ 0 → Whole n k (left o) (runFrom n k o) ⊎ Stopped n k (left o) (runFrom n k o)
-unfolding runFrom
+unfolding advanced
 ran-from zero k o q = inl (record { steps = omega arith; left-at = refl; going = tt; unrefused = q })
 ran-from (suc n) k o q = go (stops (next o .stepped .answer)) refl (λ e. ran-from n (suc k) (next o) (going-on (next o .stepped .answer) e))
   where

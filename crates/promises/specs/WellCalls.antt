@@ -18,18 +18,18 @@ use Rattle.mode.specs.Mode.{withRequest, withMask, withFlip}
 use Rattle.channel.specs.declared.Channel.{Channel}
 use Rattle.channel.specs.Set.{_⟨mode≔_⟩}
 use Rattle.chain.specs.declared.Stage.{Stage}
-use Rattle.controller.specs.declared.Chain.{Chain}
-use Rattle.controller.specs.declared.Chain.the-variants.{NoChain, Of}
-use Rattle.controller.specs.declared.Bus.{Bus}
-use Rattle.controller.specs.declared.Bus.the-variants.{Free, Kept}
-use Rattle.controller.specs.declared.Control.{Control}
+use Rattle.control.specs.declared.Chain.{Chain}
+use Rattle.control.specs.declared.Chain.the-variants.{NoChain, Of}
+use Rattle.control.specs.declared.Bus.{Bus}
+use Rattle.control.specs.declared.Bus.the-variants.{Free, Kept}
+use Rattle.control.specs.declared.Control.{Control}
 use Rattle.controller.specs.declared.Controller.{Controller}
 use Rattle.controller.specs.Controller.{at, with, resetOf}
 use Rattle.controller.specs.Set.{_⟨control≔_⟩, _⟨master≔_⟩}
-use Rattle.controller.specs.Choice.{isEnabled}
-use Rattle.registers.specs.Commands.{cieBy, ipBy, chainStarted, cannotChain, refuses, takes, busyBy, isBusy, carriedOut, commandedBy, commanded}
-use Rattle.registers.specs.Writing.{registerWritten, isCommand, storedBy, masterBy, writeBy, writeOf}
-use Rattle.registers.specs.Reading.{isOther, pointed}
+use Rattle.control.specs.Rules.{isEnabled}
+use Rattle.commanding.specs.Commands.{cieBy, ipBy, chainStarted, cannotChain, refuses, takes, busyBy, isBusy, carriedOut, commandedBy, commanded}
+use Rattle.writing.specs.Writing.{registerWritten, isCommand, storedBy, masterBy, writeBy, writeOf}
+use Rattle.reading.specs.Reading.{isOther, pointed}
 use Rattle.udc.specs.declared.LineAnswer.the-variants.{Refused}
 use Rattle.udc.specs.Lines.{lined, linedBy, linedAt}
 use Rattle.udc.specs.Acknowledge.{acknowledged, acknowledgedAt, acknowledgeBy, acknowledgeOf, interrupts}

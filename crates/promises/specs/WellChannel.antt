@@ -19,8 +19,8 @@ use Rattle.channel.specs.Set.{_⟨current≔_⟩, _⟨base≔_⟩, _⟨mode≔_
 use Rattle.channel.specs.Loading.{addressWith, withA, withB, withCount, loaded}
 use Rattle.channel.specs.Ending.{saved, withIp}
 use Rattle.controller.specs.Controller.{resetChannel}
-use Rattle.registers.specs.Commands.{cieBy, ipBy, chainStarted, cannotChain}
-use Rattle.registers.specs.Writing.{chainWritten, registerWritten}
+use Rattle.commanding.specs.Commands.{cieBy, ipBy, chainStarted, cannotChain}
+use Rattle.writing.specs.Writing.{chainWritten, registerWritten}
 use Rattle.udc.specs.Lines.{lined}
 use Rattle.promises.specs.WellFormed.{TidyTag, TidyChain, TidySet, TidyMode, Tidy, Flags, SettledFlags, ClearFlags, Sound}
 

@@ -40,7 +40,7 @@ use Rattle.chain.specs.declared.Loaded.{Loaded}
 use Rattle.chain.specs.Chaining.{advanced, goesOn, nextOf, isChainAddress, loadReload, loadFirstBy, loadLastBy, loadEntryBy, loadEntry, loadOf, settledBy, fetchedOf, droppedOf}
 use Rattle.controller.specs.Step.{workOf}
 use Rattle.udc.specs.Acknowledge.{finishedLater, acknowledgedBy, acknowledged}
-use Rattle.udc.specs.Run.{next}
+use Rattle.running.specs.Run.{next}
 use Rattle.promises.specs.WellFormed.{TidyTag, TidySet, Tidy, TidyStage, SettledFlags, ClearFlags, Clear, Software, Sound}
 use Rattle.promises.specs.WellChannel.{no, settle, stopped, current-anew, chain-anew, mode-anew, loaded-tidy, loaded-flags, request-tidy}
 

@@ -15,13 +15,13 @@ use Rattle.mode.specs.Mode.{requestModeOf, isRequested, keptHigh}
 use Rattle.channel.specs.declared.Channel.{Channel}
 use Rattle.chain.specs.declared.Stage.{Stage}
 use Rattle.chain.specs.declared.Stage.the-variants.{Reload, Entries}
-use Rattle.controller.specs.declared.Chain.{Chain}
-use Rattle.controller.specs.declared.Chain.the-variants.{NoChain, Of}
-use Rattle.controller.specs.declared.Bus.{Bus}
-use Rattle.controller.specs.declared.Bus.the-variants.{Free, Kept}
+use Rattle.control.specs.declared.Chain.{Chain}
+use Rattle.control.specs.declared.Chain.the-variants.{NoChain, Of}
+use Rattle.control.specs.declared.Bus.{Bus}
+use Rattle.control.specs.declared.Bus.the-variants.{Free, Kept}
 use Rattle.controller.specs.declared.Controller.{Controller}
 use Rattle.controller.specs.Controller.{at}
-use Rattle.controller.specs.Choice.{isEnabled}
+use Rattle.control.specs.Rules.{isEnabled}
 
 -- ---- absent bits
 

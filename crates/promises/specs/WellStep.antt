@@ -26,25 +26,29 @@ use Rattle.chain.specs.declared.Stage.the-variants.{Reload, Entries}
 use Rattle.chain.specs.declared.Next.{Next}
 use Rattle.chain.specs.declared.Next.the-variants.{More, Complete}
 use Rattle.chain.specs.Chaining.{fetchedOf, droppedOf}
-use Rattle.controller.specs.declared.Chain.{Chain}
-use Rattle.controller.specs.declared.Chain.the-variants.{NoChain, Of}
-use Rattle.controller.specs.declared.Bus.{Bus}
-use Rattle.controller.specs.declared.Bus.the-variants.{Free, Kept}
-use Rattle.controller.specs.declared.Served.{Served}
-use Rattle.controller.specs.declared.Served.the-variants as served
-use Rattle.controller.specs.declared.Turn.{Turn}
-use Rattle.controller.specs.declared.Turn.the-variants.{Nobodys, Whose}
-use Rattle.controller.specs.declared.Control.{Control}
+use Rattle.control.specs.declared.Chain.{Chain}
+use Rattle.control.specs.declared.Chain.the-variants.{NoChain, Of}
+use Rattle.control.specs.declared.Bus.{Bus}
+use Rattle.control.specs.declared.Bus.the-variants.{Free, Kept}
+use Rattle.control.specs.declared.Served.{Served}
+use Rattle.control.specs.declared.Served.the-variants as served
+use Rattle.control.specs.declared.Turn.{Turn}
+use Rattle.control.specs.declared.Turn.the-variants.{Nobodys, Whose}
+use Rattle.control.specs.declared.Control.{Control}
 use Rattle.controller.specs.declared.Controller.{Controller}
-use Rattle.controller.specs.declared.Choice.{Choice}
-use Rattle.controller.specs.declared.Choice.the-variants as chosen
+use Rattle.control.specs.declared.Choice.{Choice}
+use Rattle.control.specs.declared.Choice.the-variants as chosen
 use Rattle.controller.specs.declared.Answer.the-variants as answer
 use Rattle.controller.specs.Controller.{at, with}
-use Rattle.controller.specs.Step.{workOf, Outcome, outcome, says, chainAfter, unendedControl, controlBy, unitOf, eopAlone, holdOf, performOf, stepOf}
-use Rattle.controller.specs.Set.{_⟨control≔_⟩, _⟨chain≔_⟩, _⟨bus≔_⟩, _⟨note≔_⟩}
-use Rattle.controller.specs.Choice.{isEnabled, isInterleaved, fetchBy, unitBy, keeperBy, keeper, beginBy, begins, turnBy, interleaves, candidateBy, candidate, choiceBy, choice}
-use Rattle.controller.specs.Fetching.{controlFetched, fetchOf}
-use Rattle.udc.specs.Run.{stops, next, runFrom, runOf}
+use Rattle.controller.specs.Step.{workOf, Outcome, outcome, says, unitOf, eopAlone, holdOf, performOf, stepOf}
+use Rattle.control.specs.After.{chainAfter, unendedControl, controlBy}
+use Rattle.controller.specs.Set.{_⟨control≔_⟩}
+use Rattle.control.specs.Set.{_⟨chain≔_⟩, _⟨bus≔_⟩, _⟨note≔_⟩}
+use Rattle.controller.specs.Choice.{keeper, begins, interleaves, candidateBy, candidate, choiceBy, choice}
+use Rattle.control.specs.Rules.{isEnabled, isInterleaved, fetchBy, unitBy, keeperBy, beginBy, turnBy}
+use Rattle.controller.specs.Fetching.{fetchOf}
+use Rattle.control.specs.After.{controlFetched}
+use Rattle.running.specs.Run.{stops, next, advanced, runFrom, runOf}
 use Rattle.promises.specs.WellFormed.{Tidy, TidyStage, ClearFlags, Settled, Clear, Software, TidyHalf, Owner, Keeper, Owned, WellFormed}
 use Rattle.promises.specs.WellChannel.{no, clear-settled}
 use Rattle.promises.specs.WellEnding.{EndedWell, ended-well, moved-tidy, moved-clear, unended-tidy, unended-clear, TidyNext, Finished, fetched-well, dropped-sound}
@@ -317,7 +321,7 @@ module _ (u : Controller) (h : WellFormed u) where
 -- ---- the run, by its steps
 
 run-from : (n k : ℕ) (o : Outcome) → WellFormed (o .stepped .state) → WellFormed (runFrom n k o .last .stepped .state)
-unfolding runFrom
+unfolding advanced
 run-from zero k o h = h
 run-from (suc n) k o h = let p = step-well (o .stepped .state) h false (o .spaces) in go (stops (next o .stepped .answer)) p (run-from n (suc k) (next o) p)
   where

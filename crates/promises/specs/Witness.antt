@@ -27,11 +27,11 @@ use Rattle.unit.specs.Unit.{oddWord, unitRefusal, datumAt, storedAt, compared, 
 use Rattle.channel.specs.declared.Channel.{Channel}
 use Rattle.channel.specs.Request.{requests, isCandidate}
 use Rattle.channel.specs.Ending.{movedBy, unended, afterUnit}
-use Rattle.controller.specs.declared.Chain.the-variants.{NoChain}
-use Rattle.controller.specs.declared.Bus.the-variants.{Free}
-use Rattle.controller.specs.declared.Served.the-variants.{Nobody}
-use Rattle.controller.specs.declared.Choice.{Choice}
-use Rattle.controller.specs.declared.Choice.the-variants as chosen
+use Rattle.control.specs.declared.Chain.the-variants.{NoChain}
+use Rattle.control.specs.declared.Bus.the-variants.{Free}
+use Rattle.control.specs.declared.Served.the-variants.{Nobody}
+use Rattle.control.specs.declared.Choice.{Choice}
+use Rattle.control.specs.declared.Choice.the-variants as chosen
 use Rattle.controller.specs.Controller.{at, with}
 use Rattle.controller.specs.Choice.{keeper, begins, interleaves, candidate, choice}
 use Rattle.controller.specs.Step.{unitOf, performOf, stepOf}

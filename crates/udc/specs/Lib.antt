@@ -1,4 +1,3 @@
 pub mod Lines
 pub mod Acknowledge
-pub mod Run
 pub mod Answers

@@ -1,19 +1,16 @@
-// The host's other calls: a fresh controller, the request lines, the interrupt acknowledge, and a run of steps.
+// The host's other calls: a fresh controller, the request lines, and the interrupt acknowledge.
 ghost use mathlib.Core.Path.{_≡_};
-ghost use Rattle.space.specs.Space.{spaces};
 ghost use Rattle.udc.specs.Lines.{noRegister, noSet, noChannel, freshOf, lined, linedBy, linedAt};
 ghost use Rattle.udc.specs.Acknowledge.{interrupts, finishedLater, acknowledged, isVectorless, acknowledgedAt, acknowledgeOf};
-ghost use Rattle.udc.specs.Run.{stops, ranAs, runOf};
 use channel::Channel;
 use channel::Interrupt;
 use channel::Line;
 use channel::Status;
-use controller::Answer;
-use controller::Bus;
-use controller::Chain;
-use controller::Control;
+use control::Bus;
+use control::Chain;
+use control::Control;
+use control::Served;
 use controller::Controller;
-use controller::Served;
 use mode::Mode;
 use mode::Reasons;
 use port::Which;
@@ -39,12 +36,6 @@ pub enum AckAnswer {
 pub struct Acknowledged {
     pub state: Controller,
     pub answer: AckAnswer,
-}
-
-pub struct Ran {
-    pub state: Controller,
-    pub answer: Answer,
-    pub steps: u32,
 }
 
 // ---- a fresh controller
@@ -221,57 +212,5 @@ pub fn acknowledge(u: Controller) -> Acknowledged
     Acknowledged {
         state: u,
         answer: AckAnswer::Refused(9),
-    }
-}
-
-// ---- a run
-
-fn is_stop(a: Answer) -> bool
-    ensures { λ r. ⌜ r ≡ stops a ⌝ }
-{
-    match a {
-        Answer::Refused(_) => true,
-        Answer::Disabled => true,
-        Answer::Idle => true,
-        Answer::GivenBack(_) => false,
-        Answer::Holding(_) => true,
-        Answer::Fetched(_) => false,
-        Answer::Dropped(_) => false,
-        Answer::Unit(_, _) => false,
-        Answer::Ended(_) => false,
-    }
-}
-
-// Up to 65,536 steps without EOP.
-pub fn run(u: Controller, budget: u32, memory: &mut [u8], io: &mut [u8]) -> Ran
-    ensures { λ r. ⌜ ranAs r (spaces (now (memory .exit)) (now (io .exit))) ≡ runOf budget u (spaces (now (memory .entry)) (now (io .entry))) ⌝ }
-{
-    if 65536 < budget {
-        return Ran {
-            state: u,
-            answer: Answer::Refused(11),
-            steps: 0,
-        };
-    }
-    let mut state = u;
-    let mut answer = Answer::Idle;
-    let mut done: u32 = 0;
-    while done < budget {
-        let next = state.step(false, memory, io);
-        state = next.state;
-        answer = next.answer;
-        if is_stop(answer) {
-            return Ran {
-                state,
-                answer,
-                steps: done,
-            };
-        }
-        done += 1;
-    }
-    Ran {
-        state,
-        answer,
-        steps: done,
     }
 }

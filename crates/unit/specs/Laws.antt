@@ -1,14 +1,18 @@
--- A datum of either width is the value of its bytes, and is written as its bytes. Assumes nothing.
+-- A datum of either width is the value of its bytes, and is written as its bytes; a unit writes its accesses and nothing else. Assumes
+-- nothing.
 use mathlib.Core.Path.{_≡_, refl}
-use mathlib.Core.List.{[]}
+use mathlib.Core.Bool.{Bool}
+use mathlib.Core.List.{List, []}
 use Prim.Native.Nat.{ℕ}
 use Rattle.space.specs.declared.Width.{Width}
 use Rattle.space.specs.declared.Width.the-variants.{Byte, Word}
 use Rattle.space.specs.declared.Place.{Place}
 use Rattle.space.specs.declared.Place.the-variants.{Memory, Io}
 use Rattle.space.specs.Space.{Spaces, readAt, written}
-use Rattle.laws.specs.Local.{gets, stores, bytesAt}
-use Rattle.unit.specs.Unit.{valueOf, bytesOf}
+use Rattle.laws.specs.Local.{Write, gets, puts, stores, writing, puts-writing, bytesAt}
+use Rattle.mode.specs.declared.Operation.{Operation}
+use Rattle.tag.specs.declared.Set.{Set}
+use Rattle.unit.specs.Unit.{bytes, writesOf, valueOf, bytesOf, datumOf, writtenOf, storedAt}
 
 pub value-read : (w : Width) (z : Spaces) (p : Place) → valueOf w (gets z (bytesAt w p [])) ≡ readAt w z p
 value-read Byte z (Memory a) = refl
@@ -21,3 +25,11 @@ value-written Byte z (Memory a) v = refl
 value-written Byte z (Io a) v = refl
 value-written Word z (Memory a) v = refl
 value-written Word z (Io a) v = refl
+
+-- the accesses by which a unit writes: places, and what is written there of the data that it read
+abbrev pub writesBy : Operation → Bool → Set → List Write
+writesBy o flip s = writing 0 (bytes (writesOf o flip s)) (λ d. writtenOf o flip s (datumOf o flip s d))
+
+pub writes-exactly : (o : Operation) (flip : Bool) (s : Set) (d : List ℕ) (z : Spaces) → puts (writesBy o flip s) d z ≡ storedAt o flip s (datumOf o flip s d) z
+unfolding storedAt
+writes-exactly o flip s d z = puts-writing 0 (bytes (writesOf o flip s)) (λ x. writtenOf o flip s (datumOf o flip s x)) d z

@@ -7,8 +7,6 @@ line-spec =
     tie.close
     (tie.spec
     (λ c κs. search needs)
-    (λ c. search needs)
     (λ c κs. search needs)
-    (λ c. search needs)
     (λ c κs. search needs)
-    (λ c. rw (c .before .before .line .ensures)))
+    (λ c. rw (c .before .before .before .line .ensures)))

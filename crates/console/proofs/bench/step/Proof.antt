@@ -9,10 +9,8 @@ step-spec =
     tie.close
     (tie.spec
     (λ c κs. search needs)
-    (λ c. search needs)
-    (λ c κs. search needs)
     (λ c κs. search needs)
     (λ c κs. search needs)
     (λ c. search needs)
     (λ c. search needs)
-    (λ c. rw (← c .before .before .before .before .before .before .before .before .before .step .ensures)))
+    (λ c. rw (← c .before .before .before .before .before .before .before .step .ensures)))

@@ -7,9 +7,6 @@ write-spec =
     tie.close
     (tie.spec
     (λ c κs. search needs)
-    (λ c. search needs)
     (λ c κs. search needs)
-    (λ c. search needs)
-    (λ c. search needs)
     (λ c κs. search needs)
-    (λ c. rw (c .before .before .write .ensures)))
+    (λ c. rw (c .before .before .before .write .ensures)))

@@ -1,5 +1,5 @@
 use borrow.Author.Needs.{needs}
-use Rattle.controller.proofs.Laws.{settles}
+use Rattle.controller.proofs.Laws.{settles-on, settles-ended}
 use Rattle.controller.proofs.Controller.settle_unit.Statement.{statement}
 use Rattle.controller.proofs.Controller.settle_unit.Tie as tie
 
@@ -10,8 +10,5 @@ settle-unit-spec =
     (λ c κs. search needs)
     (λ c κs. search needs)
     (λ c κs. search needs)
-    (λ c κs. search needs)
-    (λ c κs. search needs)
-    (λ c κs. search needs)
-    (λ c κs. search needs)
-    (λ c. let a = c .before .before .before .before .before .before .before .before .before .args in settles (a .w) (a .eop) (a .self) _ _ (c .before .before .before .before .before .before .before .before .channel .ensures) (a .m) _ _ _ _ _ (c .before .before .before .before .before .before .after-unit .ensures) (c .before .before .before .before .any .ensures) (c .before .before .before .request-mode .ensures) (c .before .before .is-interleaved .ensures) (c .before .control-after .ensures) (c .with-both .ensures)))
+    (λ c. let a = c .before .before .before .args in settles-ended (a .w) (a .eop) (a .self) (a .m) _ _ (c .before .before .any .ensures) (c .before .if1 .taken) (c .end-after .ensures))
+    (λ c. let a = c .before .before .before .args in settles-on (a .w) (a .eop) (a .self) (a .m) _ _ (c .before .before .any .ensures) (c .before .if1 .left) (c .go-on .ensures)))

@@ -10,7 +10,6 @@ unit-spec =
     (λ c κs. search needs)
     (λ c κs. search needs)
     (λ c κs. search needs)
-    (λ c κs. search needs)
     (λ c. search needs)
     (λ c. search needs)
-    (λ c. let a = c .before .before .before .before .before .before .before .before .before .before .before .before .args in does-unit (a .w) (a .eop) (a .self) _ _ _ _ _ _ (c .before .before .before .before .before .before .before .before .before .channel .ensures) (c .before .before .before .before .before .before .before .before .work-of .ensures) (c .before .before .before .before .before .carry .ensures) (c .settle-unit .ensures)))
+    (λ c. let a = c .before .before .before .before .before .before .before .before .before .before .before .args in does-unit (a .w) (a .eop) (a .self) _ _ _ _ _ (c .before .before .before .before .before .before .before .before .work .ensures) (c .before .before .before .before .before .carry .ensures) (c .settle-unit .ensures)))

@@ -1,0 +1,16 @@
+-- A unit without EOP ends its operation exactly if its datum meets the condition or its count reaches 0. Assumes nothing.
+use mathlib.Core.Path.{_≡_, refl}
+use mathlib.Core.Bool.{Bool, true, false, _||_}
+use Rattle.mode.specs.Reasons.{some}
+use Rattle.unit.specs.declared.Moved.{Moved}
+use Rattle.channel.specs.Ending.{reasonsOf}
+
+either : (mc tc : Bool) → ((tc || mc) || false) ≡ (mc || tc)
+either true true = refl
+either true false = refl
+either false true = refl
+either false false = refl
+
+pub ends-exactly : (m : Moved) → some (reasonsOf m false) ≡ (m .compared .met || m .tc)
+unfolding some
+ends-exactly m = either (m .compared .met) (m .tc)

@@ -1,0 +1,169 @@
+// The commands of Figure 18, and what a refused register write leaves.
+ghost use mathlib.Core.Path.{_≡_};
+ghost use Rattle.channel.specs.Set.{_⟨mode≔_⟩};
+ghost use Rattle.controller.specs.Controller.{at, with};
+ghost use Rattle.commanding.specs.Commands.{cieBy, ipBy, chainStarted, cannotChain, refuses, takes, isBusy, carriedOut, isReset, commanded};
+use channel::Channel;
+use command::Command;
+use control::Bus;
+use control::Chain;
+use controller::Controller;
+use mode::Mode;
+use port::Which;
+
+pub enum Writing {
+    Refused(u8),
+    Taken,
+}
+
+pub struct Written {
+    pub state: Controller,
+    pub answer: Writing,
+}
+
+fn with_cie(named: bool, set: bool, mut c: Channel) -> Channel
+    ensures { λ r. ⌜ r ≡ cieBy named set c ⌝ }
+{
+    if named {
+        c.interrupt.cie = set;
+    }
+    c
+}
+
+fn with_ip(named: bool, set: bool, w: Which, mut c: Channel) -> Channel
+    ensures { λ r. ⌜ r ≡ ipBy named set w c ⌝ }
+{
+    if named {
+        if set {
+            return c.with_ip(w);
+        }
+        c.interrupt.ip = false;
+        return c;
+    }
+    c
+}
+
+fn start_chain(mut c: Channel) -> Channel
+    ensures { λ r. ⌜ r ≡ chainStarted c ⌝ }
+{
+    c.status.nac = false;
+    c.pending = true;
+    c
+}
+
+fn can_not_chain(c: Channel) -> bool
+    ensures { λ r. ⌜ r ≡ cannotChain c ⌝ }
+{
+    c.status.ca | c.interrupt.sip
+}
+
+pub fn is_busy(u: Controller) -> bool
+    ensures { λ r. ⌜ r ≡ isBusy u ⌝ }
+{
+    let control = u.control;
+    let bus = control.bus;
+    let chain = control.chain;
+    match bus {
+        Bus::Kept(_) => true,
+        Bus::Free => match chain {
+            Chain::NoChain => false,
+            Chain::Of(_, _) => true,
+        },
+    }
+}
+
+pub fn refuse(n: u8, u: Controller) -> Written
+    ensures { λ r. ⌜ r ≡ refuses n u ⌝ }
+{
+    Written {
+        state: u,
+        answer: Writing::Refused(n),
+    }
+}
+
+pub fn take(u: Controller) -> Written
+    ensures { λ r. ⌜ r ≡ takes u ⌝ }
+{
+    Written {
+        state: u,
+        answer: Writing::Taken,
+    }
+}
+
+fn set_interrupts(k: Which, set: bool, e: bool, p: bool, w: Which, u: Controller) -> Written
+    ensures { λ r. ⌜ r ≡ carriedOut (Command.Interrupts k set e p) w u ⌝ }
+{
+    if p & reading::is_other(w, k) {
+        return refuse(4, u);
+    }
+    take(u.with_channel(k, with_ip(p, set, k, with_cie(e, set, u.channel(k)))))
+}
+
+fn start(k: Which, w: Which, u: Controller) -> Written
+    ensures { λ r. ⌜ r ≡ carriedOut (Command.StartChain k) w u ⌝ }
+{
+    let c = u.channel(k);
+    if can_not_chain(c) {
+        return refuse(5, u);
+    }
+    take(u.with_channel(k, start_chain(c)))
+}
+
+// Software request, flip and hardware mask: the mode with one bit anew.
+fn with_mode(k: Which, m: Mode, u: Controller) -> Written
+    ensures { λ r. ⌜ r ≡ takes (with k (at k u ⟨mode≔ m ⟩) u) ⌝ }
+{
+    let mut c = u.channel(k);
+    c.mode = m;
+    take(u.with_channel(k, c))
+}
+
+fn carry_out(x: Command, w: Which, u: Controller) -> Written
+    ensures { λ r. ⌜ r ≡ carriedOut x w u ⌝ }
+{
+    match x {
+        Command::Reset => take(u.reset()),
+        Command::Interrupts {
+            channel,
+            set,
+            cie,
+            ip,
+        } => set_interrupts(channel, set, cie, ip, w, u),
+        Command::SoftwareRequest(k, set) => with_mode(k, u.channel(k).mode.with_request(set), u),
+        Command::Flip(k, set) => with_mode(k, u.channel(k).mode.with_flip(set), u),
+        Command::HardwareMask(k, set) => with_mode(k, u.channel(k).mode.with_mask(set), u),
+        Command::StartChain(k) => start(k, w, u),
+        Command::Unknown => refuse(3, u),
+    }
+}
+
+fn is_reset(x: Command) -> bool
+    ensures { λ r. ⌜ r ≡ isReset x ⌝ }
+{
+    match x {
+        Command::Reset => true,
+        Command::Interrupts {
+            channel: _,
+            set: _,
+            cie: _,
+            ip: _,
+        } => false,
+        Command::SoftwareRequest(_, _) => false,
+        Command::Flip(_, _) => false,
+        Command::HardwareMask(_, _) => false,
+        Command::StartChain(_) => false,
+        Command::Unknown => false,
+    }
+}
+
+pub fn obey(x: Command, w: Which, u: Controller) -> Written
+    ensures { λ r. ⌜ r ≡ commanded x w u ⌝ }
+{
+    if is_reset(x) {
+        return carry_out(x, w, u);
+    }
+    if is_busy(u) {
+        return refuse(2, u);
+    }
+    carry_out(x, w, u)
+}

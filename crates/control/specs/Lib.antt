@@ -1,0 +1,4 @@
+pub mod Set
+pub mod Rules
+pub mod After
+pub mod Turns

@@ -1,0 +1,13 @@
+use borrow.Author.Needs.{needs}
+use Rattle.lines.specs.Reading.{lastOf}
+use borrow.Author.Tests.{eq-eqb, ne-eqb}
+use Rattle.lines.proofs.last.Statement.{statement}
+use Rattle.lines.proofs.last.Tie as tie
+
+pub last-spec : {M : Type 1} → statement M
+unfolding lastOf
+last-spec =
+    tie.close
+    (tie.spec
+    (λ c. rw (eq-eqb _ _ (c .if1 .taken)))
+    (λ c. rw (ne-eqb _ _ (c .if1 .left))))

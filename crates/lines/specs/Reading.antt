@@ -1,0 +1,202 @@
+-- The console's language: what each line asks for. Assumes nothing.
+use Prim.Native.Nat.{ℕ, zero, suc, _+_, _%_}
+use mathlib.Core.Bool.{Bool, true, false, cond}
+use mathlib.Core.List.{List, [], _∷_}
+use lib.Dec.{eqb, ltb}
+use lib.ListN.{length, set}
+use Rattle.lines.specs.declared.Space.{Space}
+use Rattle.lines.specs.declared.Space.the-variants as space
+use Rattle.lines.specs.declared.Call.the-variants as call
+use Rattle.lines.specs.declared.Request.{Request}
+use Rattle.lines.specs.declared.Request.the-variants as request
+use Rattle.lines.specs.declared.Input.{Input}
+use Rattle.lines.specs.declared.Input.the-variants.{Lend, Ask}
+use Rattle.lines.specs.declared.Name.{Name}
+use Rattle.lines.specs.declared.Name.the-variants as name
+use Rattle.lines.specs.declared.Named.{Named}
+use Rattle.lines.specs.declared.Named.the-variants.{In, Nowhere}
+use Rattle.lines.specs.declared.text.Base.the-variants.{Ten}
+use Rattle.lines.specs.declared.text.Number.{Number}
+use Rattle.lines.specs.declared.text.Number.the-variants as number
+use Rattle.lines.specs.Words.{bytes, codeOf, firstOf, restOf, sameOf}
+use Rattle.lines.specs.Numbers.{numberOf, hexOf, upTo255}
+
+-- the first word of a line
+unfoldable pub named : List ℕ → List (List ℕ × Name) → Name
+named s [] = name.Unknown
+named s (e ∷ es) = cond (sameOf s (e .0)) (e .1) (named s es)
+
+abbrev pub benchNames : List (List ℕ × Name)
+benchNames =
+    (bytes "memory", name.Memory)
+    ∷ (bytes "io", name.Io)
+    ∷ (bytes "poke", name.Poke)
+    ∷ (bytes "peek", name.Peek)
+    ∷ (bytes "state", name.State)
+    ∷ (bytes "help", name.Help)
+    ∷ []
+
+abbrev pub otherNames : List (List ℕ × Name)
+otherNames =
+    (bytes "line", name.Line)
+    ∷ (bytes "acknowledge", name.Acknowledge)
+    ∷ (bytes "step", name.Step)
+    ∷ (bytes "run", name.Run)
+    ∷ benchNames
+
+abbrev pub names : List (List ℕ × Name)
+names =
+    (bytes "reset", name.Reset)
+    ∷ (bytes "pointer", name.Pointer)
+    ∷ (bytes "write", name.Write)
+    ∷ (bytes "read", name.Read)
+    ∷ (bytes "set", name.Set)
+    ∷ (bytes "get", name.Get)
+    ∷ otherNames
+
+-- a line is read whole: nothing follows its last word
+unfoldable pub lastOf : List ℕ → Request → Request
+lastOf more r = cond (eqb (length more) 0) r request.Unreadable
+
+unfoldable pub withNumber : Number → (ℕ → Request) → Request
+withNumber number.Unreadable f = request.Unreadable
+withNumber (number.Of n) f = f n
+
+unfoldable pub pointerOf : List ℕ → Request
+pointerOf s =
+    cond (eqb (length s) 0) (request.Make call.ReadPointer)
+    (withNumber (hexOf 4 (firstOf s)) (λ w. lastOf (restOf s) (request.Make (call.WritePointer (w % 65536)))))
+
+unfoldable pub writeOf : List ℕ → Request
+writeOf s = withNumber (hexOf 4 (firstOf s)) (λ w. lastOf (restOf s) (request.Make (call.Write (w % 65536))))
+
+unfoldable pub setOf : List ℕ → Request
+setOf s =
+    withNumber (hexOf 4 (firstOf s))
+    (λ p. withNumber (hexOf 4 (firstOf (restOf s))) (λ w. lastOf (restOf (restOf s)) (request.Make (call.Set (p % 65536) (w % 65536)))))
+
+unfoldable pub getOf : List ℕ → Request
+getOf s = withNumber (hexOf 4 (firstOf s)) (λ p. lastOf (restOf s) (request.Make (call.Get (p % 65536))))
+
+unfoldable pub levelOf : ℕ → List ℕ → Request
+levelOf c s =
+    cond (sameOf (firstOf s) (bytes "active")) (lastOf (restOf s) (request.Make (call.Line c true)))
+    (cond (sameOf (firstOf s) (bytes "inactive")) (lastOf (restOf s) (request.Make (call.Line c false))) request.Unreadable)
+
+unfoldable pub lineOf : List ℕ → Request
+lineOf s = withNumber (upTo255 (numberOf Ten (firstOf s))) (λ c. levelOf (c % 256) (restOf s))
+
+unfoldable pub stepOf : List ℕ → Request
+stepOf s =
+    cond (eqb (length s) 0) (request.Make (call.Step false))
+    (cond (sameOf (firstOf s) (bytes "eop")) (lastOf (restOf s) (request.Make (call.Step true))) request.Unreadable)
+
+unfoldable pub runOf : List ℕ → Request
+runOf s = withNumber (numberOf Ten (firstOf s)) (λ n. lastOf (restOf s) (request.Make (call.Run n)))
+
+-- the most bytes that are lent
+unfoldable pub limitOf : Space → ℕ
+limitOf space.Memory = 1048576
+limitOf space.Io = 65536
+
+unfoldable pub lendBy : Number → Space → List ℕ → Input
+lendBy number.Unreadable z more = Ask request.Unreadable
+lendBy (number.Of n) z more =
+    cond (eqb (length more) 0) (cond (ltb (limitOf z) n) (Ask request.TooLarge) (Lend z n)) (Ask request.Unreadable)
+
+unfoldable pub lendOf : Space → List ℕ → Input
+lendOf z s = lendBy (numberOf Ten (firstOf s)) z (restOf s)
+
+unfoldable pub spaceOf : List ℕ → Named
+spaceOf s = cond (sameOf s (bytes "memory")) (In space.Memory) (cond (sameOf s (bytes "io")) (In space.Io) Nowhere)
+
+unfoldable pub withSpace : Named → (Space → Request) → Request
+withSpace Nowhere f = request.Unreadable
+withSpace (In z) f = f z
+
+-- at most 65,536 bytes are looked at
+unfoldable pub peekedOf : Space → ℕ → ℕ → Request
+peekedOf z at n = cond (ltb 65536 n) request.TooLarge (request.Peek z at n)
+
+unfoldable pub peekOf : List ℕ → Request
+peekOf s =
+    withSpace (spaceOf (firstOf s))
+    (λ z. withNumber (hexOf 6 (firstOf (restOf s)))
+    (λ at. withNumber (numberOf Ten (firstOf (restOf (restOf s)))) (λ n. lastOf (restOf (restOf (restOf s))) (peekedOf z at n))))
+
+-- a number, a request and an input, each with the bytes of a poke beside it
+pub record Filled : Type 0 where
+  pub number : Number
+  pub bytes : List ℕ
+
+pub record Asked : Type 0 where
+  pub request : Request
+  pub bytes : List ℕ
+
+pub record Taken : Type 0 where
+  pub input : Input
+  pub bytes : List ℕ
+
+abbrev pub filled : Number → List ℕ → Filled
+filled n held = record { number = n; bytes = held }
+
+abbrev pub asked : Request → List ℕ → Asked
+asked r held = record { request = r; bytes = held }
+
+abbrev pub taken : Input → List ℕ → Taken
+taken i held = record { input = i; bytes = held }
+
+unfoldable pub withByte : Number → List ℕ → (ℕ → Filled) → Filled
+withByte number.Unreadable held f = filled number.Unreadable held
+withByte (number.Of b) held f = f b
+
+-- n bytes are put in their places, and k more have one
+unfoldable pub bytesFrom : ℕ → ℕ → List ℕ → List ℕ → Filled
+bytesFrom zero n s held = cond (eqb (length s) 0) (filled (number.Of n) held) (filled number.Unreadable held)
+bytesFrom (suc k) n s held =
+    cond (eqb (length s) 0) (filled (number.Of n) held)
+    (withByte (hexOf 2 (firstOf s)) held (λ b. bytesFrom k (n + 1) (restOf s) (set held n (b % 256))))
+
+unfoldable pub inSpace : Named → List ℕ → (Space → Asked) → Asked
+inSpace Nowhere held f = asked request.Unreadable held
+inSpace (In z) held f = f z
+
+unfoldable pub atNumber : Number → List ℕ → (ℕ → Asked) → Asked
+atNumber number.Unreadable held f = asked request.Unreadable held
+atNumber (number.Of n) held f = f n
+
+-- a poke of no byte is not understood
+unfoldable pub pokedOf : Space → ℕ → Filled → Asked
+pokedOf z at f =
+    atNumber (f .number) (f .bytes) (λ n. asked (cond (eqb n 0) request.Unreadable (request.Poke z at n)) (f .bytes))
+
+unfoldable pub pokeOf : List ℕ → List ℕ → Asked
+pokeOf s held =
+    inSpace (spaceOf (firstOf s)) held
+    (λ z. atNumber (hexOf 6 (firstOf (restOf s))) held (λ at. pokedOf z at (bytesFrom 64 0 (restOf (restOf s)) held)))
+
+-- what a line of a name asks, with the words that follow
+unfoldable pub askOf : Name → List ℕ → List ℕ → Taken
+askOf name.Reset s held = taken (Ask (lastOf s (request.Make call.Reset))) held
+askOf name.Pointer s held = taken (Ask (pointerOf s)) held
+askOf name.Write s held = taken (Ask (writeOf s)) held
+askOf name.Read s held = taken (Ask (lastOf s (request.Make call.Read))) held
+askOf name.Set s held = taken (Ask (setOf s)) held
+askOf name.Get s held = taken (Ask (getOf s)) held
+askOf name.Line s held = taken (Ask (lineOf s)) held
+askOf name.Acknowledge s held = taken (Ask (lastOf s (request.Make call.Acknowledge))) held
+askOf name.Step s held = taken (Ask (stepOf s)) held
+askOf name.Run s held = taken (Ask (runOf s)) held
+askOf name.Memory s held = taken (lendOf space.Memory s) held
+askOf name.Io s held = taken (lendOf space.Io s) held
+askOf name.Poke s held = taken (Ask (pokeOf s held .request)) (pokeOf s held .bytes)
+askOf name.Peek s held = taken (Ask (peekOf s)) held
+askOf name.State s held = taken (Ask (lastOf s request.State)) held
+askOf name.Help s held = taken (Ask (lastOf s request.Help)) held
+askOf name.Unknown s held = taken (Ask request.Unreadable) held
+
+-- a line: its comment does not count, and an empty one does nothing
+unfoldable pub readOf : List ℕ → List ℕ → Taken
+readOf line held =
+    cond (eqb (length (codeOf line)) 0) (taken (Ask request.Nothing) held)
+    (askOf (named (firstOf (codeOf line)) names) (restOf (codeOf line)) held)

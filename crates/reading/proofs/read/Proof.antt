@@ -1,0 +1,20 @@
+use borrow.Author.Needs.{needs}
+use Rattle.reading.specs.Reading.{readOf}
+use Rattle.reading.proofs.read.Statement.{statement}
+use Rattle.reading.proofs.read.Tie as tie
+
+pub read-spec : {M : Type 1} → statement M
+unfolding readOf
+read-spec =
+    tie.close
+    (tie.spec
+    (λ c κs. search needs)
+    (λ c. search needs)
+    (λ c. search needs)
+    (λ c κs. search needs)
+    (λ c κs. search needs)
+    (λ c κs. search needs)
+    (λ c. search needs)
+    (λ c. rw (← c .before .before .read-port .ensures, c .enum-told .given .1))
+    (λ c. rw (← c .before .before .before .before .before .before .read-port .ensures, c .before .before .before .before .port .given .1, c .register-read .ensures, c .before .channel .ensures, c .before .before .waits-for-bus .ensures))
+    (λ c. rw (← c .before .before .read-port .ensures, c .enum-told2 .given .1)))

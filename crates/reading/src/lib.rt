@@ -1,0 +1,98 @@
+// The pointer, and what is read at it.
+ghost use mathlib.Core.Path.{_≡_};
+ghost use Rattle.reading.specs.Reading.{isOther, keepsBus, waitsForBus, registerRead, readOf, pointed};
+use channel::Channel;
+use control::Bus;
+use controller::Controller;
+use port::Port;
+use port::Register;
+use port::Which;
+
+pub enum Reading {
+    Refused(u8),
+    Value(u16),
+}
+
+pub fn is_other(w: Which, k: Which) -> bool
+    ensures { λ r. ⌜ r ≡ isOther w k ⌝ }
+{
+    match w {
+        Which::One => match k {
+            Which::One => false,
+            Which::Two => true,
+        },
+        Which::Two => match k {
+            Which::One => true,
+            Which::Two => false,
+        },
+    }
+}
+
+fn keeps_bus(w: Which, bus: Bus) -> bool
+    ensures { λ r. ⌜ r ≡ keepsBus w bus ⌝ }
+{
+    match bus {
+        Bus::Free => false,
+        Bus::Kept(k) => !is_other(w, k),
+    }
+}
+
+// WFB: a candidate that does not keep the bus.
+pub fn waits_for_bus(w: Which, u: Controller) -> bool
+    ensures { λ r. ⌜ r ≡ waitsForBus w u ⌝ }
+{
+    let control = u.control;
+    let bus = control.bus;
+    u.channel(w).is_candidate() & !keeps_bus(w, bus)
+}
+
+fn register_read(r: Register, wfb: bool, c: Channel) -> u16
+    ensures { λ v. ⌜ v ≡ registerRead r wfb c ⌝ }
+{
+    match r {
+        Register::CommandStatus => c.flags(wfb).status(),
+        Register::CurrentAUpper => c.current.a.upper,
+        Register::CurrentALower => c.current.a.lower,
+        Register::CurrentBUpper => c.current.b.upper,
+        Register::CurrentBLower => c.current.b.lower,
+        Register::BaseAUpper => c.base.a.upper,
+        Register::BaseALower => c.base.a.lower,
+        Register::BaseBUpper => c.base.b.upper,
+        Register::BaseBLower => c.base.b.lower,
+        Register::CurrentCount => c.current.count,
+        Register::BaseCount => c.base.count,
+        Register::Pattern => c.pattern,
+        Register::Mask => c.mask,
+        Register::Save => c.interrupt.save,
+        Register::Vector => c.interrupt.vector as u16,
+        Register::ModeHigh => c.mode.high,
+        Register::ModeLow => c.mode.low,
+        Register::ChainUpper => c.chain.upper,
+        Register::ChainLower => c.chain.lower,
+    }
+}
+
+pub fn read(u: Controller) -> Reading
+    ensures { λ r. ⌜ r ≡ readOf u ⌝ }
+{
+    let port = port::read_port(u.pointer);
+    match port {
+        Port::MasterMode => Reading::Value(u.master),
+        Port::Of(w, r) => Reading::Value(register_read(r, waits_for_bus(w, u), u.channel(w))),
+        Port::Nowhere => Reading::Refused(1),
+    }
+}
+
+pub fn read_pointer(u: Controller) -> u16
+    ensures { λ r. ⌜ r ≡ u .pointer ⌝ }
+{
+    u.pointer
+}
+
+pub fn write_pointer(mut u: Controller, w: u16) -> Controller
+    ensures { λ r. ⌜ r ≡ pointed w u ⌝ }
+{
+    let kept = port::kept_pointer(w);
+    u.pointer = kept;
+    u
+}

@@ -1,4 +1,0 @@
-pub mod Reading
-pub mod Commands
-pub mod Writing
-pub mod Answers

@@ -1,0 +1,49 @@
+-- One turn of a run at the numbers that the loop has.
+use Prim.Native.Nat.{ℕ, suc, _+_, _-_, _<_, _≤_}
+use native.Mathlib.Omega.{arith}
+use native.Mathlib.Numerals.{add-one}
+use mathlib.Core.Path.{_≡_, ap}
+use mathlib.Core.Bool.{Bool, true, false}
+use mathlib.Core.List.{List}
+use lib.ListN.{length}
+use borrow.Author.Tests.{lt-ltb, le-ltb}
+use Rattle.space.specs.Space.{Spaces, spaces}
+use Rattle.controller.specs.declared.Controller.{Controller}
+use Rattle.controller.specs.declared.Answer.{Answer}
+use Rattle.controller.specs.declared.Answer.the-variants.{Refused}
+use Rattle.controller.specs.Step.{Outcome, outcome, says}
+use Rattle.running.specs.Run.{RunOutcome, stops, nextBy, advanced, advanceOf, runOf}
+
+pub stopped : (eop : Bool) (n k : ℕ) (o p : Outcome) → k < n → p ≡ nextBy eop o → stops (p .stepped .answer) ≡ true → record { last = p; steps = k } ≡ advanced eop (n - k) k o
+unfolding advanced
+stopped eop n k o p h e s =
+    let d : n - k ≡ suc (n - (k + 1)) = omega arith in
+    rw (d, ← e, s)
+
+pub turned : (eop : Bool) (n k : ℕ) (o p : Outcome) → k < n → p ≡ nextBy eop o → stops (p .stepped .answer) ≡ false → advanced eop (n - (k + 1)) (k + 1) p ≡ advanced eop (n - k) k o
+unfolding advanced
+turned eop n k o p h e s =
+    let d : n - k ≡ suc (n - (k + 1)) = omega arith in
+    rw (d, ← e, s, add-one)
+
+pub spent : (eop : Bool) (n k : ℕ) (o : Outcome) → k ≤ n → n ≤ k → record { last = o; steps = k } ≡ advanced eop (n - k) k o
+unfolding advanced
+spent eop n k o h g = let d : n - k ≡ 0 = omega arith in rw d
+
+pub begun : (eop : Bool) (n : ℕ) (o : Outcome) → advanced eop (n - 0) 0 o ≡ advanced eop n 0 o
+begun eop n o = ap (λ (l : ℕ). advanced eop l 0 o) (omega arith)
+
+pub whole : (n : ℕ) (u : Controller) (z : Spaces) → n ≤ 65536 → advanceOf false n u z ≡ runOf n u z
+unfolding advanceOf runOf
+whole n u z h = rw (le-ltb 65536 n h)
+
+pub refused : (n : ℕ) (u : Controller) (z : Spaces) → 65536 < n → record { last = outcome (says u (Refused 11)) z; steps = 0 } ≡ runOf n u z
+unfolding runOf
+refused n u z h = rw (lt-ltb 65536 n h)
+
+-- what is left to run gives what the whole run gives
+pub record Going (eop : Bool) (n : ℕ) (m₀ i₀ : List ℕ) (u₀ : Controller) (a₀ : Answer) (m i : List ℕ) (u : Controller) (a : Answer) (k : ℕ) : Type 0 where
+  pub within : k ≤ n
+  pub memory-long : length m ≡ length m₀
+  pub io-long : length i ≡ length i₀
+  pub same : advanced eop (n - k) k (outcome (says u a) (spaces m i)) ≡ advanced eop n 0 (outcome (says u₀ a₀) (spaces m₀ i₀))

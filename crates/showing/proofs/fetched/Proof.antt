@@ -1,0 +1,12 @@
+use borrow.Author.Needs.{needs}
+use Rattle.showing.specs.State.{fetchedOf}
+use Rattle.showing.proofs.fetched.Statement.{statement}
+use Rattle.showing.proofs.fetched.Tie as tie
+
+pub fetched-spec : {M : Type 1} → statement M
+unfolding fetchedOf
+fetched-spec =
+    tie.close
+    (tie.spec
+    (λ c. rw (c .if1 .taken))
+    (λ c. rw (c .if1 .left)))

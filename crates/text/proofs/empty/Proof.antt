@@ -1,0 +1,12 @@
+use borrow.Author.Needs.{needs}
+use Rattle.text.specs.Text.{written}
+use mathlib.Core.Path.{refl}
+use Rattle.text.proofs.empty.Statement.{statement}
+use Rattle.text.proofs.empty.Tie as tie
+
+pub empty-spec : {M : Type 1} → statement M
+unfolding written
+empty-spec =
+    tie.close
+    (tie.spec
+    (λ c. refl))

@@ -1,0 +1,149 @@
+-- The state as 72 words that a host keeps: one field a word, in this order. Assumes nothing.
+use Prim.Native.Nat.{ℕ, _+_, _%_}
+use mathlib.Core.Bool.{Bool, true, false, not}
+use mathlib.Core.List.{List, [], _∷_}
+use lib.Dec.{eqb}
+use lib.ListN.{getD}
+use Rattle.facts.specs.Look.{look}
+use Rattle.port.specs.declared.Which.{Which}
+use Rattle.port.specs.declared.Which.the-variants.{One, Two}
+use Rattle.chain.specs.declared.Progress.{Progress}
+use Rattle.chain.specs.declared.Stage.{Stage}
+use Rattle.chain.specs.declared.Stage.the-variants.{Reload, Entries}
+use Rattle.channel.specs.declared.Channel.{Channel}
+use Rattle.control.specs.declared.Chain.{Chain}
+use Rattle.control.specs.declared.Chain.the-variants.{NoChain, Of}
+use Rattle.control.specs.declared.Bus.{Bus}
+use Rattle.control.specs.declared.Bus.the-variants.{Free, Kept}
+use Rattle.control.specs.declared.Served.{Served}
+use Rattle.control.specs.declared.Served.the-variants.{Nobody, Last}
+use Rattle.controller.specs.declared.Controller.{Controller}
+use Rattle.controller.specs.Answers.{channelNumber}
+
+-- ---- to words
+
+abbrev pub bit : Bool → ℕ
+bit true = 1
+bit false = 0
+
+-- The chain under way: its channel, or 0.
+abbrev pub chainWord : Chain → ℕ
+chainWord NoChain = 0
+chainWord (Of w s) = channelNumber w
+
+-- 0 where its reload word is fetched next, 1 where its entries are.
+abbrev pub stageWord : Chain → ℕ
+stageWord NoChain = 0
+stageWord (Of w Reload) = 0
+stageWord (Of w (Entries p)) = 1
+
+abbrev pub noProgress : Progress
+noProgress = record { left = 0; second = false; upper = 0 }
+
+abbrev pub progressOf : Chain → Progress
+progressOf NoChain = noProgress
+progressOf (Of w Reload) = noProgress
+progressOf (Of w (Entries p)) = p
+
+-- The channel that keeps the bus, or 0.
+abbrev pub busWord : Bus → ℕ
+busWord Free = 0
+busWord (Kept w) = channelNumber w
+
+-- The channel served last, or 0.
+abbrev pub servedWord : Served → ℕ
+servedWord Nobody = 0
+servedWord (Last w) = channelNumber w
+
+abbrev pub channelWords : Channel → List ℕ → List ℕ
+channelWords c rest =
+    c .current .a .upper ∷
+    c .current .a .lower ∷
+    c .current .b .upper ∷
+    c .current .b .lower ∷
+    c .current .count ∷
+    c .base .a .upper ∷
+    c .base .a .lower ∷
+    c .base .b .upper ∷
+    c .base .b .lower ∷
+    c .base .count ∷
+    c .pattern ∷
+    c .mask ∷
+    c .mode .high ∷
+    c .mode .low ∷
+    c .chain .upper ∷
+    c .chain .lower ∷
+    bit (c .interrupt .cie) ∷
+    bit (c .interrupt .ip) ∷
+    bit (c .interrupt .sip) ∷
+    c .interrupt .vector ∷
+    c .interrupt .save ∷
+    bit (c .status .ca) ∷
+    bit (c .status .nac) ∷
+    bit (c .status .mch) ∷
+    bit (c .status .mcl) ∷
+    bit (c .status .why .tc) ∷
+    bit (c .status .why .mc) ∷
+    bit (c .status .why .eop) ∷
+    bit (c .line .active) ∷
+    bit (c .line .change) ∷
+    bit (c .pending) ∷
+    rest
+
+abbrev pub wordsWith : ℕ → ℕ → Progress → ℕ → ℕ → Controller → List ℕ
+wordsWith chain stage p bus served u =
+    u .pointer ∷
+    u .master ∷
+    chain ∷
+    stage ∷
+    p .left ∷
+    bit (p .second) ∷
+    p .upper ∷
+    bus ∷
+    bit (u .control .note) ∷
+    served ∷
+    channelWords (u .one) (channelWords (u .two) [])
+
+unfoldable pub wordsOf : Controller → List ℕ
+wordsOf u =
+    let k = u .control in
+    wordsWith (chainWord (k .chain)) (stageWord (k .chain)) (progressOf (k .chain)) (busWord (k .bus)) (servedWord (k .served)) u
+
+-- ---- from words, whatever they hold
+
+abbrev pub word : ℕ → List ℕ → ℕ
+word k w = getD w k 0
+
+-- Any value but 0 is set.
+abbrev pub flag : ℕ → Bool
+flag n = not (eqb n 0)
+
+unfoldable pub stageOf : ℕ → Progress → Stage
+stageOf t p = look Reload t ((1, Entries p) ∷ [])
+
+unfoldable pub chainOf : ℕ → Stage → Chain
+chainOf t s = look NoChain t ((1, Of One s) ∷ (2, Of Two s) ∷ [])
+
+unfoldable pub busOf : ℕ → Bus
+busOf t = look Free t ((1, Kept One) ∷ (2, Kept Two) ∷ [])
+
+unfoldable pub servedOf : ℕ → Served
+servedOf t = look Nobody t ((1, Last One) ∷ (2, Last Two) ∷ [])
+
+abbrev pub channelAt : ℕ → List ℕ → Channel
+channelAt at w = record { current = record { a = record { upper = word (at + 0) w; lower = word (at + 1) w }; b = record { upper = word (at + 2) w; lower = word (at + 3) w }; count = word (at + 4) w }; base = record { a = record { upper = word (at + 5) w; lower = word (at + 6) w }; b = record { upper = word (at + 7) w; lower = word (at + 8) w }; count = word (at + 9) w }; pattern = word (at + 10) w; mask = word (at + 11) w; mode = record { high = word (at + 12) w; low = word (at + 13) w }; chain = record { upper = word (at + 14) w; lower = word (at + 15) w }; interrupt = record { cie = flag (word (at + 16) w); ip = flag (word (at + 17) w); sip = flag (word (at + 18) w); vector = (word (at + 19) w) % 256; save = word (at + 20) w }; status = record { ca = flag (word (at + 21) w); nac = flag (word (at + 22) w); mch = flag (word (at + 23) w); mcl = flag (word (at + 24) w); why = record { tc = flag (word (at + 25) w); mc = flag (word (at + 26) w); eop = flag (word (at + 27) w) } }; line = record { active = flag (word (at + 28) w); change = flag (word (at + 29) w) }; pending = flag (word (at + 30) w) }
+
+abbrev pub stateWith : Chain → Bus → Served → List ℕ → Controller
+stateWith chain bus served w = record {
+  pointer = word 0 w;
+  master = word 1 w;
+  control = record { chain = chain; bus = bus; note = flag (word 8 w); served = served };
+  one = channelAt 10 w;
+  two = channelAt 41 w;
+}
+
+abbrev pub progressAt : ℕ → List ℕ → Progress
+progressAt at w = record { left = word at w; second = flag (word (at + 1) w); upper = word (at + 2) w }
+
+unfoldable pub stateOf : List ℕ → Controller
+stateOf w = stateWith (chainOf (word 2 w) (stageOf (word 3 w) (progressAt 4 w))) (busOf (word 7 w)) (servedOf (word 9 w)) w

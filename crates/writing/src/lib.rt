@@ -1,0 +1,104 @@
+// What is written at the pointer.
+ghost use mathlib.Core.Path.{_≡_};
+ghost use Rattle.commanding.specs.Commands.{isBusy};
+ghost use Rattle.writing.specs.Writing.{chainWritten, registerWritten, isCommand, storedBy, masterBy, writeOf};
+use channel::Channel;
+use commanding::Written;
+use controller::Controller;
+use port::Port;
+use port::Register;
+use port::Which;
+use reload::Entry;
+
+fn write_chain(second: bool, w: u16, c: Channel) -> Channel
+    ensures { λ r. ⌜ r ≡ chainWritten second w c ⌝ }
+{
+    let mut next = c.load(Entry::ChainAddress, second, w);
+    next.status.ca = false;
+    next
+}
+
+fn register_written(r: Register, w: u16, c: Channel) -> Channel
+    ensures { λ v. ⌜ v ≡ registerWritten r w c ⌝ }
+{
+    match r {
+        Register::CommandStatus => c,
+        Register::CurrentAUpper => c.load(Entry::CurrentA, false, w),
+        Register::CurrentALower => c.load(Entry::CurrentA, true, w),
+        Register::CurrentBUpper => c.load(Entry::CurrentB, false, w),
+        Register::CurrentBLower => c.load(Entry::CurrentB, true, w),
+        Register::BaseAUpper => c.load(Entry::BaseA, false, w),
+        Register::BaseALower => c.load(Entry::BaseA, true, w),
+        Register::BaseBUpper => c.load(Entry::BaseB, false, w),
+        Register::BaseBLower => c.load(Entry::BaseB, true, w),
+        Register::CurrentCount => c.load(Entry::CurrentCount, false, w),
+        Register::BaseCount => c.load(Entry::BaseCount, false, w),
+        Register::Pattern => c.load(Entry::PatternAndMask, false, w),
+        Register::Mask => c.load(Entry::PatternAndMask, true, w),
+        Register::Save => c,
+        Register::Vector => c.load(Entry::Vector, false, w),
+        Register::ModeHigh => c,
+        Register::ModeLow => c.load(Entry::Mode, true, w),
+        Register::ChainUpper => write_chain(false, w, c),
+        Register::ChainLower => write_chain(true, w, c),
+    }
+}
+
+fn is_command(r: Register) -> bool
+    ensures { λ b. ⌜ b ≡ isCommand r ⌝ }
+{
+    match r {
+        Register::CommandStatus => true,
+        Register::CurrentAUpper => false,
+        Register::CurrentALower => false,
+        Register::CurrentBUpper => false,
+        Register::CurrentBLower => false,
+        Register::BaseAUpper => false,
+        Register::BaseALower => false,
+        Register::BaseBUpper => false,
+        Register::BaseBLower => false,
+        Register::CurrentCount => false,
+        Register::BaseCount => false,
+        Register::Pattern => false,
+        Register::Mask => false,
+        Register::Save => false,
+        Register::Vector => false,
+        Register::ModeHigh => false,
+        Register::ModeLow => false,
+        Register::ChainUpper => false,
+        Register::ChainLower => false,
+    }
+}
+
+fn write_register(k: Which, r: Register, w: u16, u: Controller) -> Written
+    ensures { λ x. ⌜ x ≡ storedBy (isCommand r) (isBusy u) k r w u ⌝ }
+{
+    if is_command(r) {
+        return commanding::obey(command::decode(w), k, u);
+    }
+    if commanding::is_busy(u) {
+        return commanding::refuse(2, u);
+    }
+    commanding::take(u.with_channel(k, register_written(r, w, u.channel(k))))
+}
+
+fn write_master(w: u16, mut u: Controller) -> Written
+    ensures { λ r. ⌜ r ≡ masterBy (isBusy u) w u ⌝ }
+{
+    if commanding::is_busy(u) {
+        return commanding::refuse(2, u);
+    }
+    u.master = w % 16;
+    commanding::take(u)
+}
+
+pub fn write(w: u16, u: Controller) -> Written
+    ensures { λ r. ⌜ r ≡ writeOf w u ⌝ }
+{
+    let port = port::write_port(u.pointer);
+    match port {
+        Port::MasterMode => write_master(w, u),
+        Port::Of(k, r) => write_register(k, r, w, u),
+        Port::Nowhere => commanding::refuse(1, u),
+    }
+}

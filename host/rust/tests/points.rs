@@ -1,0 +1,224 @@
+//! Document 01's points, on the plain model and on the proved library.
+
+mod chip;
+
+use chip::Chip;
+use einflyga::{port, Channel, Controller, Reasons, Refusal, Step};
+
+const ONE: Channel = Channel::One;
+
+// Mode words: software request; then the operation in demand hold.
+const SOFTWARE_REQUEST: u16 = 0x10;
+const STOP_ON_MATCH: u16 = 0x02;
+const DEMAND_HOLD: u16 = 0x20;
+
+fn write<C: Chip>(chip: &mut C, port: u16, value: u16) -> Result<(), Refusal> {
+    chip.write_pointer(port);
+    chip.write(value)
+}
+
+fn read<C: Chip>(chip: &mut C, port: u16) -> u16 {
+    chip.write_pointer(port);
+    chip.read().expect("a register")
+}
+
+fn put_words(memory: &mut [u8], words: &[u16]) {
+    for (pair, word) in memory.chunks_exact_mut(2).zip(words) {
+        pair.copy_from_slice(&word.to_be_bytes());
+    }
+}
+
+/// An enabled controller whose channel 1 is about to chain from memory's start.
+fn about_to_chain<C: Chip>() -> C {
+    let mut chip = C::new();
+    for (port, value) in [
+        (port::CHAIN_UPPER.of(ONE), 0),
+        (port::CHAIN_LOWER.of(ONE), 0),
+        (port::COMMAND.of(ONE), 0xA0),
+        (port::MASTER_MODE, 1),
+    ] {
+        write(&mut chip, port, value).expect("a write that is carried out");
+    }
+    chip
+}
+
+/// The same, after the fetches of this table.
+fn chained<C: Chip>(table: &[u16], memory: &mut [u8]) -> C {
+    put_words(memory, table);
+    let mut chip = about_to_chain::<C>();
+    for _ in table {
+        assert_eq!(chip.step(false, memory, &mut []), Ok(Step::Fetched(ONE)));
+    }
+    chip
+}
+
+/// A channel 1 about to do a unit of this operation, from A to B.
+fn about_to_move<C: Chip>(
+    operation: u16,
+    a: [u16; 2],
+    b: [u16; 2],
+    count: u16,
+    memory: &mut [u8],
+) -> C {
+    let mode = [SOFTWARE_REQUEST, DEMAND_HOLD | operation];
+    let table = [0x0382, a[0], a[1], b[0], b[1], count, mode[0], mode[1]];
+    chained(&table, memory)
+}
+
+fn unit(reasons: Reasons) -> Result<Step, Refusal> {
+    Ok(Step::Unit(ONE, reasons))
+}
+
+fn words_of_a_chain<C: Chip>(reload: u16) -> u32 {
+    let mut memory = [0; 64];
+    put_words(&mut memory, &[reload]);
+    let run = about_to_chain::<C>()
+        .run(100, &mut memory, &mut [])
+        .unwrap();
+    assert_eq!(run.last, Ok(Step::Idle));
+    run.steps
+}
+
+fn p1_to_p3_table_lengths<C: Chip>() {
+    assert_eq!(words_of_a_chain::<C>(0x0282), 6);
+    assert_eq!(words_of_a_chain::<C>(0x03FF), 18);
+    assert_eq!(words_of_a_chain::<C>(0xFC00), 1);
+}
+
+fn current_a_after_a_unit<C: Chip>(operation: u16, a: [u16; 2]) -> [u16; 2] {
+    let mut memory = [0; 64];
+    let mut chip = about_to_move::<C>(operation, a, [0x0050, 0x0020], 9, &mut memory);
+    assert_eq!(
+        chip.step(false, &mut memory, &mut []),
+        unit(Reasons::default())
+    );
+    [port::CURRENT_A_UPPER, port::CURRENT_A_LOWER].map(|port| read(&mut chip, port.of(ONE)))
+}
+
+fn p4_to_p6_addresses<C: Chip>() {
+    let byte = 1;
+    let word = 0;
+    assert_eq!(
+        current_a_after_a_unit::<C>(byte, [0xFF40, 0xFFFF]),
+        [0x0040, 0x0000]
+    );
+    assert_eq!(
+        current_a_after_a_unit::<C>(word, [0x0048, 0x0000]),
+        [0xFF48, 0xFFFE]
+    );
+    assert_eq!(
+        current_a_after_a_unit::<C>(byte, [0x0000, 0x0010]),
+        [0x0000, 0x0012]
+    );
+}
+
+fn p7_and_p8_counts<C: Chip>() {
+    for (count, left, reasons) in [
+        (0x0000, 0xFFFF, Reasons::default()),
+        (0x0001, 0x0000, Reasons::TC),
+    ] {
+        let mut memory = [0; 64];
+        let mut chip = about_to_move::<C>(0, [0x40, 0x20], [0x40, 0x30], count, &mut memory);
+        assert_eq!(chip.step(false, &mut memory, &mut []), unit(reasons));
+        assert_eq!(read(&mut chip, port::CURRENT_COUNT.of(ONE)), left);
+    }
+}
+
+fn p9_and_p10_funnelling<C: Chip>() {
+    for (b_tag, datum) in [(0x0040, [0x12, 0x34]), (0x0048, [0x34, 0x12])] {
+        let mut memory = [0; 64];
+        let mut chip = about_to_move::<C>(8, [0x40, 0x20], [b_tag, 0x30], 1, &mut memory);
+        memory[0x20..0x22].copy_from_slice(&[0x12, 0x34]);
+        assert_eq!(chip.step(false, &mut memory, &mut []), unit(Reasons::TC));
+        assert_eq!(memory[0x30..0x32], datum);
+    }
+}
+
+/// A search of 20h for 12xxh, which is the second word there.
+fn about_to_search<C: Chip>(count: u16, memory: &mut [u8]) -> C {
+    let mode = [SOFTWARE_REQUEST | STOP_ON_MATCH, DEMAND_HOLD | 0xE];
+    let table = [
+        0x028A, 0x0040, 0x0020, count, 0x1200, 0x00FF, mode[0], mode[1],
+    ];
+    put_words(&mut memory[0x20..], &[0x1300, 0x12AA]);
+    chained(&table, memory)
+}
+
+fn p11_search<C: Chip>() {
+    let mut memory = [0; 64];
+    let mut chip = about_to_search::<C>(5, &mut memory);
+    assert_eq!(
+        chip.step(false, &mut memory, &mut []),
+        unit(Reasons::default())
+    );
+    assert_eq!(chip.step(false, &mut memory, &mut []), unit(Reasons::MC));
+    assert_eq!(read(&mut chip, port::CURRENT_COUNT.of(ONE)), 3);
+}
+
+fn match_at_terminal_count<C: Chip>() {
+    let mut memory = [0; 64];
+    let mut chip = about_to_search::<C>(2, &mut memory);
+    let run = chip.run(2, &mut memory, &mut []).unwrap();
+    assert_eq!(run.last, unit(Reasons::TC | Reasons::MC));
+    assert_eq!(run.steps, 2);
+}
+
+fn p12_interrupt_commands<C: Chip>() {
+    let mut chip = C::new();
+    write(&mut chip, port::COMMAND.of(ONE), 0x36).unwrap();
+    assert_eq!(read(&mut chip, port::STATUS.of(ONE)) & 0xA000, 0xA000);
+    let before = chip.words();
+    write(&mut chip, port::COMMAND.of(ONE), 0x20).unwrap();
+    assert_eq!(chip.words(), before);
+}
+
+fn refused_commands<C: Chip>() {
+    let mut chip = C::new();
+    assert_eq!(write(&mut chip, 0x2E, 0xC0), Err(Refusal::NoCommand));
+    assert_eq!(write(&mut chip, 0x2C, 0x26), Err(Refusal::WrongPort));
+}
+
+fn pointer<C: Chip>() {
+    let mut chip = C::new();
+    chip.write_pointer(0x00FF);
+    assert_eq!(chip.read_pointer(), 0x007E);
+    assert_eq!(chip.read(), Err(Refusal::NoRegister));
+    assert_eq!(chip.write(0), Err(Refusal::NoRegister));
+}
+
+fn runs_at_their_bounds<C: Chip>() {
+    let mut memory = [0; 64];
+    let mut chip = about_to_chain::<C>();
+    let before = chip.words();
+    let nothing = chip.run(0, &mut memory, &mut []).unwrap();
+    assert_eq!((nothing.last, nothing.steps), (Ok(Step::Idle), 0));
+    assert_eq!(
+        chip.run(65_537, &mut memory, &mut []),
+        Err(Refusal::RunTooLong)
+    );
+    assert_eq!(chip.words(), before);
+}
+
+macro_rules! on_both_sides {
+    ($($point:ident)*) => {
+        mod plain {
+            $(#[test] fn $point() { super::$point::<einflyga::plain::Plain>() })*
+        }
+        mod proved {
+            $(#[test] fn $point() { super::$point::<super::Controller>() })*
+        }
+    };
+}
+
+on_both_sides! {
+    p1_to_p3_table_lengths
+    p4_to_p6_addresses
+    p7_and_p8_counts
+    p9_and_p10_funnelling
+    p11_search
+    match_at_terminal_count
+    p12_interrupt_commands
+    refused_commands
+    pointer
+    runs_at_their_bounds
+}
