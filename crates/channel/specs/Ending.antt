@@ -1,6 +1,6 @@
 -- Document 01, "Ending", and what an unended unit leaves. Assumes nothing.
 use Prim.Native.Nat.{ℕ}
-use mathlib.Core.Bool.{Bool, true, false, not, cond, _&&_, _||_}
+use mathlib.Core.Bool.{Bool, true, false, cond, _||_}
 use Rattle.port.specs.declared.Which.{Which}
 use Rattle.port.specs.declared.Which.the-variants.{One, Two}
 use Rattle.moving.specs.declared.Compared.{Compared}
@@ -16,7 +16,7 @@ use Rattle.channel.specs.declared.Channel.{Channel}
 use Rattle.channel.specs.declared.Line.{Line}
 use Rattle.unit.specs.declared.Moved.{Moved}
 use Rattle.channel.specs.declared.Ended.{Ended}
-use Rattle.channel.specs.Set.{_⟨current≔_⟩, _⟨mode≔_⟩, _⟨interrupt≔_⟩, _⟨status≔_⟩, _⟨line≔_⟩, _⟨pending≔_⟩, _⟨ip≔_⟩, _⟨sip≔_⟩, _⟨save≔_⟩, _⟨nac≔_⟩, _⟨mch≔_⟩, _⟨mcl≔_⟩, _⟨why≔_⟩, _⟨change≔_⟩}
+use Rattle.channel.specs.Set.{_⟨current≔_⟩, _⟨mode≔_⟩, _⟨interrupt≔_⟩, _⟨status≔_⟩, _⟨line≔_⟩, _⟨ip≔_⟩, _⟨sip≔_⟩, _⟨save≔_⟩, _⟨nac≔_⟩, _⟨mch≔_⟩, _⟨mcl≔_⟩, _⟨why≔_⟩, _⟨change≔_⟩}
 
 -- ---- the words that a channel shows
 

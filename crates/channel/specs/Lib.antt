@@ -3,3 +3,4 @@ pub mod Request
 pub mod Ending
 pub mod Loading
 pub mod EndingLaws
+pub mod Reset

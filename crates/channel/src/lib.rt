@@ -3,6 +3,7 @@ ghost use mathlib.Core.Path.{_≡_};
 ghost use Rattle.mode.specs.Mode.{isRequested};
 ghost use Rattle.channel.specs.Request.{arrived, requests, isCandidate};
 ghost use Rattle.channel.specs.Ending.{flagsOf, isTwo, saved, withIp, flagged, interrupted, finished, endOf, movedBy, spent, unended};
+ghost use Rattle.channel.specs.Reset.{resetChannel};
 ghost use Rattle.channel.specs.Loading.{addressWith, withA, withB, compareWith, modeWith, chainWith, loaded};
 use mode::Mode;
 use mode::Reasons;
@@ -120,6 +121,21 @@ impl Channel {
     {
         let requesting = is_requesting(self.mode, self.line);
         self.pending | (requesting & ((!self.status.nac & !self.interrupt.sip) & !self.status.ca))
+    }
+
+    pub fn reset(mut self) -> Channel
+        ensures { λ r. ⌜ r ≡ resetChannel self ⌝ }
+    {
+        self.interrupt.cie = false;
+        self.interrupt.ip = false;
+        self.interrupt.sip = false;
+        let mut status = self.status;
+        status.ca = true;
+        status.nac = true;
+        self.status = status;
+        self.line.change = false;
+        self.pending = false;
+        self
     }
 
     // The flags of the status and save words; WFB is the controller's to say.

@@ -1,32 +1,26 @@
 -- Document 01, "Which step comes next": the six rules in their order, by the registers alone, refusals 6, 7 and 8 included.
 -- Assumes nothing.
-use Prim.Native.Nat.{ℕ, _%_}
-use mathlib.Core.Bool.{Bool, true, false, not, cond, _&&_}
-use lib.Dec.{eqb}
-use Rattle.facts.specs.Bits.{bitAt}
+use Prim.Native.Nat.{ℕ}
+use mathlib.Core.Bool.{Bool, true, false, not, _&&_}
 use Rattle.port.specs.declared.Which.{Which}
-use Rattle.port.specs.declared.Which.the-variants.{One, Two}
 use Rattle.mode.specs.declared.RequestMode.{RequestMode}
-use Rattle.mode.specs.declared.RequestMode.the-variants.{Single, DemandHold, DemandRelease, DemandInterleave}
 use Rattle.mode.specs.Mode.{requestModeOf}
 use Rattle.tag.specs.Address.{isOdd}
 use Rattle.unit.specs.Unit.{unitRefusal}
 use Rattle.channel.specs.declared.Channel.{Channel}
 use Rattle.channel.specs.Request.{requests, isCandidate}
 use Rattle.chain.specs.declared.Stage.{Stage}
-use Rattle.chain.specs.declared.Stage.the-variants.{Reload, Entries}
 use Rattle.control.specs.declared.Chain.{Chain}
 use Rattle.control.specs.declared.Chain.the-variants.{NoChain, Of}
 use Rattle.control.specs.declared.Bus.{Bus}
 use Rattle.control.specs.declared.Bus.the-variants.{Free, Kept}
 use Rattle.control.specs.declared.Served.{Served}
-use Rattle.control.specs.declared.Served.the-variants.{Nobody, Last}
 use Rattle.controller.specs.declared.Controller.{Controller}
 use Rattle.control.specs.declared.Choice.{Choice}
-use Rattle.control.specs.declared.Choice.the-variants.{Disabled, Refused, Fetch, GiveBack, Unit, Hold, Release, Idle}
+use Rattle.control.specs.declared.Choice.the-variants.{Disabled, GiveBack, Idle}
 use Rattle.control.specs.declared.Turn.{Turn}
 use Rattle.control.specs.declared.Turn.the-variants.{Nobodys, Whose}
-use Rattle.control.specs.Rules.{isEnabled, fetchBy, unitBy, keeperBy, beginBy, turnBy, isInterleave}
+use Rattle.control.specs.Rules.{isEnabled, fetchBy, keeperBy, beginBy, turnBy, isInterleave}
 use Rattle.controller.specs.Controller.{at}
 
 unfoldable pub keeper : Which → Channel → Choice

@@ -7,20 +7,17 @@ use Rattle.space.specs.declared.Width.the-variants.{Word}
 use Rattle.space.specs.Space.{valueIn}
 use Rattle.tag.specs.Address.{number}
 use Rattle.chain.specs.declared.Stage.{Stage}
-use Rattle.chain.specs.declared.Stage.the-variants.{Entries}
 use Rattle.chain.specs.declared.Next.{Next}
-use Rattle.chain.specs.declared.Next.the-variants.{More, Complete}
 use Rattle.chain.specs.declared.Loaded.{Loaded}
 use Rattle.chain.specs.Chaining.{fetchedOf, droppedOf}
 use Rattle.channel.specs.Request.{requests}
-use Rattle.control.specs.declared.Chain.the-variants.{NoChain, Of}
-use Rattle.control.specs.declared.Bus.the-variants.{Kept}
+use Rattle.control.specs.declared.Chain.the-variants.{NoChain}
 use Rattle.control.specs.declared.Control.{Control}
 use Rattle.controller.specs.declared.Controller.{Controller}
 use Rattle.controller.specs.declared.Stepped.{Stepped}
 use Rattle.controller.specs.declared.Answer.the-variants.{Fetched, Dropped}
 use Rattle.controller.specs.Set.{_⟨control≔_⟩}
-use Rattle.control.specs.Set.{_⟨chain≔_⟩, _⟨bus≔_⟩, _⟨note≔_⟩}
+use Rattle.control.specs.Set.{_⟨chain≔_⟩}
 use Rattle.control.specs.After.{controlFetched}
 use Rattle.controller.specs.Controller.{at, with}
 use Rattle.control.specs.Rules.{isInterleaved}

@@ -1,12 +1,11 @@
 -- Document 01, "Which step comes next" and "Ending": what a step does, by what was chosen. Assumes nothing.
 use Prim.Native.Nat.{ℕ}
-use mathlib.Core.Bool.{Bool, true, false, _||_}
+use mathlib.Core.Bool.{Bool, true, false}
 use mathlib.Core.List.{List}
 use Rattle.port.specs.declared.Which.{Which}
 use Rattle.space.specs.Space.{Spaces}
 use Rattle.mode.specs.declared.Reasons.{Reasons}
 use Rattle.mode.specs.declared.RequestMode.{RequestMode}
-use Rattle.mode.specs.declared.RequestMode.the-variants.{Single, DemandHold, DemandRelease, DemandInterleave}
 use Rattle.mode.specs.Mode.{requestModeOf}
 use Rattle.mode.specs.Reasons.{some}
 use Rattle.unit.specs.declared.Work.{Work}
@@ -16,11 +15,8 @@ use Rattle.channel.specs.declared.Channel.{Channel}
 use Rattle.channel.specs.declared.Ended.{Ended}
 use Rattle.channel.specs.Ending.{reasonsOf, movedBy, unended, endOf, afterUnit}
 use Rattle.chain.specs.declared.Stage.{Stage}
-use Rattle.chain.specs.declared.Stage.the-variants.{Reload}
 use Rattle.control.specs.declared.Chain.{Chain}
-use Rattle.control.specs.declared.Chain.the-variants.{Of}
-use Rattle.control.specs.declared.Bus.the-variants.{Free, Kept}
-use Rattle.control.specs.declared.Served.the-variants.{Last}
+use Rattle.control.specs.declared.Bus.the-variants.{Free}
 use Rattle.control.specs.declared.Control.{Control}
 use Rattle.controller.specs.declared.Controller.{Controller}
 use Rattle.controller.specs.declared.Stepped.{Stepped}

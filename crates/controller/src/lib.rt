@@ -3,7 +3,7 @@ ghost use mathlib.Core.Path.{_≡_};
 ghost use mathlib.Core.Bool.{true};
 ghost use Rattle.space.specs.Space.{spaces};
 ghost use Rattle.controller.specs.Set.{_⟨control≔_⟩};
-ghost use Rattle.controller.specs.Controller.{at, with, resetChannel, resetOf};
+ghost use Rattle.controller.specs.Controller.{at, with, resetOf};
 ghost use Rattle.controller.specs.Choice.{keeper, begins, interleaves, candidate, choiceBy, choice};
 ghost use Rattle.mode.specs.Mode.{requestModeOf};
 ghost use Rattle.controller.specs.Fetching.{fetchOf};
@@ -110,19 +110,6 @@ fn work_of(c: Channel) -> Work
     }
 }
 
-fn reset_channel(mut c: Channel) -> Channel
-    ensures { λ r. ⌜ r ≡ resetChannel c ⌝ }
-{
-    c.interrupt.cie = false;
-    c.interrupt.ip = false;
-    c.interrupt.sip = false;
-    c.status.ca = true;
-    c.status.nac = true;
-    c.line.change = false;
-    c.pending = false;
-    c
-}
-
 impl Controller {
     pub fn channel(self, w: Which) -> Channel
         ensures { λ r. ⌜ r ≡ at w self ⌝ }
@@ -168,8 +155,8 @@ impl Controller {
                 note: false,
                 served: Served::Nobody,
             },
-            one: reset_channel(self.one),
-            two: reset_channel(self.two),
+            one: self.one.reset(),
+            two: self.two.reset(),
         }
     }
 

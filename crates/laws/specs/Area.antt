@@ -1,16 +1,16 @@
 -- The areas of a funnelling: a line of bytes and a line of words, each with its space, start and pace. From "the areas lie
 -- apart, inside the spaces" to what the laws of `Block` and `Funnel` ask.
 -- Assumes nothing.
-use mathlib.Core.Path.{_≡_, refl, sym, ap, _∙_, subst}
-use mathlib.Core.Logic.{_⊎_, inl, inr, _≢_}
-use mathlib.Core.Bool.{Bool, true, false}
-use Prim.Native.Nat.{ℕ, zero, suc, _+_, _*_, _/_, _%_, _≤_, _<_}
+use mathlib.Core.Path.{_≡_, refl, sym, ap, _∙_}
+use mathlib.Core.Logic.{inl, inr, _≢_}
+use mathlib.Core.Bool.{Bool}
+use Prim.Native.Nat.{ℕ, suc, _+_, _*_, _/_, _%_, _≤_, _<_}
 use native.Mathlib.Omega.{arith}
 use mathlib.Core.List.{List, [], _∷_}
 use Rattle.space.specs.declared.Place.{Place}
 use Rattle.space.specs.Space.{Spaces, get, placeAt}
 use Rattle.space.specs.Laws.{Inside, SameSize, inside-size, place-inj}
-use Rattle.laws.specs.Local.{In, Write, places}
+use Rattle.laws.specs.Local.{In, Write}
 use Rattle.laws.specs.Op.{Area}
 use Rattle.laws.specs.Block.{To, Laid, Strips, laid-strips}
 use Rattle.laws.specs.Funnel.{to-bytes, to-word}

@@ -3,7 +3,7 @@
 use mathlib.Core.Path.{_≡_, refl, sym, ap, _∙_, subst}
 use mathlib.Core.Logic.{_⊎_, inl, inr, _≢_}
 use mathlib.Core.Bool.{Bool, true, false}
-use Prim.Native.Nat.{ℕ, zero, suc, _+_, _*_, _≤_, _<_, zero-le}
+use Prim.Native.Nat.{ℕ, zero, suc, _+_, _*_, _≤_, _<_}
 use native.Mathlib.Nat.{not-suc-le-zero, mul-le-mul-right}
 use native.Mathlib.Decide.{ℕ-discrete}
 use native.Mathlib.Omega.{arith}
@@ -13,7 +13,7 @@ use Rattle.space.specs.Space.{Spaces, get, put}
 use Rattle.space.specs.Laws.{get-put-same, Inside, SameSize, size-refl, size-trans, size-sym, size-put, inside-size}
 use Rattle.laws.specs.Local.{In, Agree, Prog, Write, gets, puts, places, gets-agree, puts-keeps, size-puts}
 use Rattle.laws.specs.Machine.{iter, Every, every-at, every-init}
-use Rattle.laws.specs.Op.{Ends, ended, Seen, bump, after, done, Unended, seen-data, Steady, Area, Reads-at, datum}
+use Rattle.laws.specs.Op.{Ends, Seen, bump, after, done, Unended, seen-data, Steady, Area, Reads-at, datum}
 
 -- ---- a list of writes, read back
 

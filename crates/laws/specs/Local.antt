@@ -4,7 +4,7 @@ use mathlib.Core.Path.{_≡_, refl, sym, ap, _∙_, subst}
 use mathlib.Core.Logic.{_≢_, _⊎_, inl, inr}
 use Prim.Native.Nat.{ℕ, suc}
 use lib.ListN.{getD}
-use mathlib.Core.List.{List, [], _∷_, map}
+use mathlib.Core.List.{List, [], _∷_}
 use Rattle.space.specs.declared.Place.{Place}
 use Rattle.space.specs.declared.Width.{Width}
 use Rattle.space.specs.declared.Width.the-variants.{Byte, Word}

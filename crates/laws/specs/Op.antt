@@ -1,13 +1,13 @@
 -- One channel's operation in a machine that does other things in between.
 -- Assumes nothing.
-use mathlib.Core.Path.{_≡_, refl, sym, ap, _∙_, subst}
+use mathlib.Core.Path.{_≡_, sym, ap, _∙_, subst}
 use mathlib.Core.Bool.{Bool, true, false, _||_}
-use Prim.Native.Nat.{ℕ, zero, suc, _≤_, _<_}
-use mathlib.Core.List.{List, [], _∷_}
+use Prim.Native.Nat.{ℕ, zero, suc, _<_}
+use mathlib.Core.List.{List}
 use Rattle.space.specs.declared.Place.{Place}
-use Rattle.space.specs.Space.{Spaces, get}
+use Rattle.space.specs.Space.{Spaces}
 use Rattle.laws.specs.Local.{In, Agree, Prog, gets, gets-agree}
-use Rattle.laws.specs.Machine.{iter, Every}
+use Rattle.laws.specs.Machine.{Every}
 
 -- why a unit ends the operation
 pub record Ends : Type 0 where

@@ -5,13 +5,13 @@ use mathlib.Core.Path.{_≡_, refl, sym, ap, _∙_, subst}
 use mathlib.Core.Logic.{_⊎_, inl, inr, _≢_}
 use mathlib.Core.Bool.{Bool, true, false, _||_, true≢false}
 use Prim.Native.Nat.{ℕ, zero, suc, _+_, _≤_, _<_, zero-le}
-use native.Mathlib.Nat.{zero-lt-suc, not-suc-le-zero}
+use native.Mathlib.Nat.{not-suc-le-zero}
 use native.Mathlib.Decide.{ℕ-discrete}
 use native.Mathlib.Omega.{arith}
-use mathlib.Core.List.{List, [], _∷_}
+use mathlib.Core.List.{List}
 use lib.Dec.{T, eqb, eqb→eq, eqb-refl}
 use Rattle.space.specs.declared.Place.{Place}
-use Rattle.space.specs.Space.{Spaces, get}
+use Rattle.space.specs.Space.{Spaces}
 use Rattle.laws.specs.Local.{Agree, Prog, gets}
 use Rattle.laws.specs.Machine.{iter, Every, every-at, every-init}
 use Rattle.laws.specs.Op.{Ends, ended, Seen, bump, after, done, Unended, seen-data, Steady, Area, Reads-at, datum}

@@ -1,12 +1,11 @@
 -- Demand 1: any call is carried out or refused by a number from the list; a refused call changes nothing, and its values are 0; each
 -- refusal is given exactly when the table says, in its order. Assumes nothing.
-use mathlib.Core.Path.{_≡_, refl, sym, ap, _∙_, subst}
-use mathlib.Core.Bool.{Bool, true, false, not, cond, _&&_, _||_, true≢false}
+use mathlib.Core.Path.{_≡_, refl, sym, ap, _∙_}
+use mathlib.Core.Bool.{Bool, true, false, not, cond, _&&_, _||_}
 use mathlib.Core.Logic.{_⊎_, inl, inr, _≢_, _↔_}
 use mathlib.Core.List.{List, [], _∷_}
-use Prim.Native.Nat.{ℕ, zero, suc, _≤_, _<_}
-use native.Mathlib.Omega.{arith}
-use lib.Dec.{eqb, ltb}
+use Prim.Native.Nat.{ℕ, zero, suc}
+use lib.Dec.{eqb}
 use Rattle.facts.specs.Look.{look}
 use Rattle.space.specs.Space.{Spaces}
 use Rattle.port.specs.declared.Which.{Which}
@@ -42,7 +41,7 @@ use Rattle.control.specs.declared.Choice.{Choice}
 use Rattle.control.specs.declared.Choice.the-variants as chosen
 use Rattle.controller.specs.declared.Answer.{Answer}
 use Rattle.controller.specs.declared.Answer.the-variants as answer
-use Rattle.controller.specs.Answers.{Paper, paper, none}
+use Rattle.controller.specs.Answers.{Paper, paper}
 use Rattle.controller.specs.Controller.{at}
 use Rattle.controller.specs.StepLaws.{refused-keeps}
 use Rattle.controller.specs.Choice.{keeper, begins, interleaves, candidateBy, candidate, choiceBy, choice}
@@ -60,7 +59,7 @@ use Rattle.udc.specs.declared.Lined.{Lined}
 use Rattle.udc.specs.declared.Acknowledged.{Acknowledged}
 use Rattle.udc.specs.Lines.{linedAt}
 use Rattle.udc.specs.Acknowledge.{interrupts, isVectorless, answered, acknowledgedAt, acknowledgeBy, acknowledgeOf}
-use Rattle.running.specs.Run.{RunOutcome, stops, next, runFrom, runOf}
+use Rattle.running.specs.Run.{RunOutcome}
 use Rattle.udc.specs.Answers.{paperLine, PaperAck, paperAck}
 
 -- ---- refusals in order

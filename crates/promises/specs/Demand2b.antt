@@ -1,19 +1,16 @@
 -- Demand 2, the search: it ends on the first datum that meets its condition, or at the count. In any stretch of steps, for either
 -- channel, all request modes, both widths, all step codes and both spaces, with the other channel active. Assumes nothing.
 use mathlib.Core.Path.{_≡_, refl, sym, ap, _∙_, subst}
-use mathlib.Core.Bool.{Bool, true, false, not, cond, _&&_, _||_, true≢false}
-use mathlib.Core.Logic.{_⊎_, inl, inr}
-use mathlib.Core.List.{List, [], _∷_}
-use Prim.Native.Nat.{ℕ, zero, suc, _+_, _-_, _%_, _≤_, _<_}
-use native.Mathlib.Nat.{le-of-suc-le-suc}
+use mathlib.Core.Bool.{Bool, true, false, not, _||_, true≢false}
+use mathlib.Core.List.{List, []}
+use Prim.Native.Nat.{ℕ, zero, suc, _-_, _%_, _≤_, _<_}
 use native.Mathlib.Omega.{arith}
 use lib.Dec.{eqb}
 use Rattle.space.specs.declared.Width.{Width}
-use Rattle.space.specs.declared.Width.the-variants.{Byte, Word}
 use Rattle.space.specs.declared.Place.{Place}
 use Rattle.space.specs.Space.{Spaces, get}
 use Rattle.laws.specs.Local.{Agree, Prog, gets, bytesAt}
-use Rattle.laws.specs.Machine.{iter, Every, every-map, every-init, every-at}
+use Rattle.laws.specs.Machine.{iter, Every, every-map, every-init}
 use Rattle.laws.specs.Op.{Ends, ended, Seen, bump, after, done, Unended, seen-data, Steady, Area, Reads-at}
 use Rattle.laws.specs.Search.{First, outcome, Looks, Looking, Found, meets, search-ends}
 use Rattle.moving.specs.Count.{fewer, terminal}
@@ -28,7 +25,7 @@ use Rattle.mode.specs.declared.RequestMode.{RequestMode}
 use Rattle.mode.specs.declared.RequestMode.the-variants.{Single, DemandHold, DemandRelease, DemandInterleave}
 use Rattle.mode.specs.declared.Operation.{Operation}
 use Rattle.mode.specs.declared.Operation.the-variants.{Search}
-use Rattle.mode.specs.Mode.{operationOf, isFlipped, matchControl, requestModeOf, isRequested, withRequest}
+use Rattle.mode.specs.Mode.{operationOf, isFlipped, matchControl, requestModeOf, isRequested}
 use Rattle.mode.specs.Laws.{control-request}
 use Rattle.mode.specs.Reasons.{some}
 use Rattle.unit.specs.declared.Moved.{Moved}
@@ -49,7 +46,7 @@ use Rattle.control.specs.After.{controlBy}
 use Rattle.port.specs.declared.Which.{Which}
 use Rattle.port.specs.declared.Which.the-variants.{One, Two}
 use Rattle.promises.specs.Machine.{Machine, step, answer, next-choice, channel, unit-reads, unit-writes}
-use Rattle.promises.specs.Own.{owns, fetches, spares, unfetched, chain-of, Left, by, rest-of, Away, others-keep}
+use Rattle.promises.specs.Own.{owns, spares, unfetched, chain-of, Left, by, rest-of, Away, others-keep}
 
 -- ---- stretches
 

@@ -2,8 +2,7 @@
 -- in which the other channel writes none of the areas; both orders of the halves, memory or I/O on each side, up and down.
 -- Assumes nothing.
 use mathlib.Core.Path.{_≡_, refl, sym, ap, _∙_, subst}
-use mathlib.Core.Logic.{_⊎_, inl, inr, _≢_}
-use mathlib.Core.Bool.{Bool, true, false, true≢false, _||_}
+use mathlib.Core.Bool.{Bool, true, false}
 use mathlib.Core.List.{List, [], _∷_}
 use Prim.Native.Nat.{ℕ, zero, suc, _+_, _-_, _*_, _%_, _≤_, _<_}
 use native.Mathlib.Omega.{arith}
@@ -15,7 +14,7 @@ use Rattle.space.specs.Space.{Spaces, get, placeAt}
 use Rattle.space.specs.Laws.{SameSize, size-refl, Bytes, after}
 use Rattle.laws.specs.Local.{Agree, Write, gets, puts, size-puts, writing}
 use Rattle.laws.specs.Machine.{iter, Every, every-map}
-use Rattle.laws.specs.Op.{Ends, ended, bump, done, Unended, seen-data, Steady, Area, Reads-at}
+use Rattle.laws.specs.Op.{Ends, ended, bump, done, Unended, Steady, Area, Reads-at}
 use Rattle.laws.specs.Op as op
 use Rattle.laws.specs.Block.{To, Both, Laid, Carrying, Writes-at, Arrived, block-arrives}
 use Rattle.laws.specs.Funnel.{to-bytes, to-word, round-trip}
@@ -40,7 +39,7 @@ use Rattle.control.specs.declared.Control.{Control}
 use Rattle.control.specs.declared.Choice.{Choice}
 use Rattle.control.specs.declared.Choice.the-variants as chosen
 use Rattle.control.specs.Rules.{isInterleaved}
-use Rattle.controller.specs.Step.{workOf, performOf, stepOf}
+use Rattle.controller.specs.Step.{workOf, performOf}
 use Rattle.control.specs.After.{controlBy}
 use Rattle.port.specs.declared.Which.{Which}
 use Rattle.promises.specs.Machine.{Machine, step, next-choice, channel, unit, unit-reads, unit-writes, unit-spaces}

@@ -1,12 +1,12 @@
 -- Demand 3: two channels in Demand Interleave take turns, and where they keep apart the result is that of one after the other.
 -- Assumes nothing.
 use mathlib.Core.Path.{_≡_, refl, sym, ap, _∙_, subst}
-use mathlib.Core.Bool.{Bool, true, false, not, cond, _&&_, _||_, true≢false}
+use mathlib.Core.Bool.{Bool, true, false, not, cond, _&&_, _||_}
 use Prim.Native.Nat.{ℕ, suc, _≤_}
 use lib.Dec.{eqb}
 use Rattle.space.specs.Space.{Spaces}
 use Rattle.space.specs.Laws.{size-refl}
-use Rattle.laws.specs.Local.{Mover, mover, exec}
+use Rattle.laws.specs.Local.{Mover, mover}
 use Rattle.laws.specs.Inter.{Turn, first, second, back, State, units₁, units₂, move}
 use Rattle.laws.specs.Fair.{nobody, channel1, channel2, serve, Picks}
 use Rattle.laws.specs.Fair as fair
@@ -44,7 +44,7 @@ use Rattle.controller.specs.Choice.{begins, interleaves, candidateBy, candidate
 use Rattle.control.specs.Rules.{isEnabled, isInterleaved, unitBy, beginBy, turnBy, isInterleave}
 use Rattle.controller.specs.Step.{Outcome, workOf, unitOf, performOf, stepOf}
 use Rattle.control.specs.After.{unendedControl, controlBy}
-use Rattle.promises.specs.Machine.{Machine, left, outcomeOf, step, answer, next-choice, channel, unit, unit-channel, unit-spaces}
+use Rattle.promises.specs.Machine.{Machine, left, step, answer, next-choice, channel, unit, unit-channel, unit-spaces}
 
 -- ---- what the stretch starts with
 

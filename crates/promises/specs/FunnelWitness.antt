@@ -1,22 +1,19 @@
 -- The funnel's promise is not empty: three words to six bytes and back. Assumes nothing.
-use mathlib.Core.Path.{_≡_, refl, sym, ap, subst}
+use mathlib.Core.Path.{_≡_, refl}
 use mathlib.Core.Bool.{Bool, true, false}
 use mathlib.Core.List.{List, [], _∷_}
-use Prim.Native.Nat.{ℕ, zero, suc, _+_, _*_, _/_, _%_, _≤_, _<_}
+use Prim.Native.Nat.{ℕ, _+_, _*_, _/_, _%_, _≤_, _<_}
 use native.Mathlib.Omega.{arith}
 use lib.Dec.{T, ltb, ltb→lt}
-use lib.ListN.{length, getD}
+use lib.ListN.{getD}
 use Rattle.facts.specs.Below.{below}
 use Rattle.facts.specs.Look.{look}
 use Rattle.space.specs.declared.Width.the-variants.{Byte, Word}
 use Rattle.space.specs.Space.{Spaces, get}
-use Rattle.space.specs.Laws.{SameSize, size-refl, Bytes, bytes-of-lists, place-inj}
+use Rattle.space.specs.Laws.{SameSize, Bytes, bytes-of-lists, place-inj}
 use Rattle.laws.specs.Machine.{iter, Every}
-use Rattle.laws.specs.Op.{done}
-use Rattle.laws.specs.Pace.{pace}
-use Rattle.laws.specs.Area.{Apart-inside, byte, half, high, low}
+use Rattle.laws.specs.Area.{Apart-inside, high, low}
 use Rattle.laws.specs.Area as area
-use Rattle.moving.specs.Funnel.{highFirst}
 use Rattle.tag.specs.declared.Address.{Address}
 use Rattle.tag.specs.Tag.{directionOf}
 use Rattle.tag.specs.Address.{placeOf, steppedOn}

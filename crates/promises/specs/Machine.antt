@@ -1,14 +1,13 @@
 -- A machine is a controller and the two lent spaces; a stretch of n is n steps without EOP. A unit, as the program of accesses that
 -- the laws speak of, is the unit that the step does. Assumes nothing.
-use mathlib.Core.Path.{_≡_, refl, sym, ap, _∙_}
-use mathlib.Core.Bool.{Bool, true, false}
-use mathlib.Core.List.{List, [], _∷_}
+use mathlib.Core.Path.{_≡_, refl}
+use mathlib.Core.Bool.{Bool, false}
+use mathlib.Core.List.{List}
 use Prim.Native.Nat.{ℕ}
 use Rattle.space.specs.declared.Place.{Place}
 use Rattle.space.specs.Space.{Spaces}
 use Rattle.laws.specs.Local.{Prog, Write, gets, exec}
 use Rattle.port.specs.declared.Which.{Which}
-use Rattle.port.specs.declared.Which.the-variants.{One, Two}
 use Rattle.mode.specs.Mode.{operationOf, isFlipped}
 use Rattle.unit.specs.Unit.{bytes, readsOf, datumOf, datumAt, movedOf, worked}
 use Rattle.unit.specs.Laws.{writesBy, writes-exactly}

@@ -1,14 +1,14 @@
 -- What a step does to a channel and to the spaces, by whether it is a unit of that channel. For either channel. Assumes nothing.
-use mathlib.Core.Path.{_≡_, refl, sym, ap, _∙_, subst}
-use mathlib.Core.Bool.{Bool, true, false, not, _&&_, _||_, true≢false}
+use mathlib.Core.Path.{_≡_, refl, sym, ap, _∙_}
+use mathlib.Core.Bool.{Bool, true, false, not, _&&_, true≢false}
 use mathlib.Core.List.{List}
 use Prim.Native.Nat.{ℕ}
 use lib.Dec.{eqb}
 use Rattle.space.specs.declared.Place.{Place}
 use Rattle.space.specs.declared.Width.the-variants.{Word}
 use Rattle.space.specs.Space.{Spaces, get, valueIn}
-use Rattle.space.specs.Laws.{SameSize, size-refl}
-use Rattle.laws.specs.Local.{In, Agree, gets, puts, places, puts-keeps, size-puts, writing}
+use Rattle.space.specs.Laws.{SameSize}
+use Rattle.laws.specs.Local.{In, Agree, gets, places, puts-keeps}
 use Rattle.port.specs.declared.Which.{Which}
 use Rattle.port.specs.declared.Which.the-variants.{One, Two}
 use Rattle.mode.specs.declared.RequestMode.{RequestMode}
@@ -41,9 +41,9 @@ use Rattle.controller.specs.Choice.{keeper, begins, candidateBy, candidate, cho
 use Rattle.control.specs.Rules.{isEnabled, isInterleaved, fetchBy, unitBy, keeperBy, beginBy, turnBy}
 use Rattle.controller.specs.Fetching.{fetchOf}
 use Rattle.control.specs.After.{controlFetched}
-use Rattle.controller.specs.Step.{workOf, unitOf, holdOf, performOf, stepOf}
+use Rattle.controller.specs.Step.{workOf, unitOf, holdOf, performOf}
 use Rattle.control.specs.After.{controlBy}
-use Rattle.promises.specs.Machine.{Machine, left, step, next-choice, channel, unit, unit-writes, unit-reads, unit-spaces}
+use Rattle.promises.specs.Machine.{Machine, left, next-choice, channel, unit-writes, unit-reads, unit-spaces}
 
 abbrev pub other : Which → Which
 other One = Two

@@ -1,15 +1,15 @@
 -- An address register stepped k times, as the line of places of the laws. Assumes nothing.
-use mathlib.Core.Path.{_≡_, refl, sym, ap, _∙_, subst}
+use mathlib.Core.Path.{_≡_, refl, sym, ap, _∙_}
 use mathlib.Core.Bool.{Bool, true, false}
-use Prim.Native.Nat.{ℕ, zero, suc, _+_, _-_, _*_, _/_, _%_, _≤_, _<_}
+use Prim.Native.Nat.{ℕ, zero, suc, _+_, _-_, _/_, _%_, _≤_, _<_}
 use native.Mathlib.Omega.{arith}
 use Rattle.space.specs.declared.Width.{Width}
 use Rattle.space.specs.declared.Width.the-variants.{Byte, Word}
 use Rattle.space.specs.declared.Direction.{Direction}
 use Rattle.space.specs.declared.Direction.the-variants.{Up, Down, Hold}
 use Rattle.space.specs.declared.Place.{Place}
-use Rattle.space.specs.Space.{placeAt, addressOf}
-use Rattle.space.specs.Stepping.{stride, moved, steppedBy}
+use Rattle.space.specs.Space.{placeAt}
+use Rattle.space.specs.Stepping.{stride, moved}
 use Rattle.laws.specs.Pace.{pace, pace-start, pace-step}
 use Rattle.laws.specs.Area.{Line}
 use Rattle.moving.specs.Funnel.{highFirst}

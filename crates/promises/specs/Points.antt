@@ -1,19 +1,16 @@
 -- Document 01, "Points on both sides": the points that are proved, as a single table under one claim, of the rules themselves.
 -- Assumes nothing.
-use mathlib.Core.Path.{_≡_, refl, sym, ap, _∙_}
+use mathlib.Core.Path.{_≡_, refl, ap, _∙_}
 use mathlib.Core.Bool.{Bool, true, false}
 use Prim.Native.Nat.{ℕ}
-use lib.Bits.{bitAnd, bitXor}
 use Rattle.facts.specs.Look.{look}
 use Rattle.space.specs.declared.Width.the-variants.{Byte, Word}
 use Rattle.space.specs.declared.Direction.the-variants.{Up, Down}
 use Rattle.space.specs.Stepping.{steppedBy}
 use Rattle.space.specs.Laws.{memoryAt, ioAt}
-use Rattle.moving.specs.Count.{fewer, terminal}
 use Rattle.moving.specs.Comparison.{comparison}
 use Rattle.moving.specs.Funnel.{highFirst, joined}
 use Rattle.tag.specs.declared.Set.{Set}
-use Rattle.tag.specs.Address.{placeOf, steppedOn}
 use Rattle.mode.specs.Mode.{operationOf}
 use Rattle.reload.specs.Reload.{wordsOf}
 use Rattle.unit.specs.declared.Work.{Work}

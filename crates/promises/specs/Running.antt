@@ -4,7 +4,7 @@ use mathlib.Core.Path.{_≡_, refl, sym, ap, _∙_, subst}
 use mathlib.Core.Bool.{Bool, true, false, cond, true≢false}
 use mathlib.Core.Logic.{_⊎_, inl, inr, _≢_, _↔_}
 use mathlib.Core.List.{List, [], _∷_}
-use Prim.Native.Nat.{ℕ, zero, suc, _+_, _≤_, _<_}
+use Prim.Native.Nat.{ℕ, zero, suc, _+_, _<_}
 use native.Mathlib.Nat.{zero-lt-suc}
 use native.Mathlib.Omega.{arith}
 use lib.Dec.{ltb}
@@ -15,7 +15,7 @@ use Rattle.controller.specs.declared.Answer.{Answer}
 use Rattle.controller.specs.declared.Back.the-variants.{Note, Bus}
 use Rattle.controller.specs.declared.Answer.the-variants.{Refused, Disabled, Idle, GivenBack, Holding, Fetched, Dropped, Unit, Ended}
 use Rattle.controller.specs.Answers.{paper}
-use Rattle.controller.specs.Step.{Outcome, outcome, says, stepOf}
+use Rattle.controller.specs.Step.{Outcome, outcome, says}
 use Rattle.running.specs.Run.{RunOutcome, stops, next, advanced, runFrom, runOf}
 use Rattle.promises.specs.Machine.{Machine, left, outcomeOf, step, answer}
 use Rattle.promises.specs.Demand1.{firstOf, intent, oddStart, notCarried, oddSide}

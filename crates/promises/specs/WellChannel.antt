@@ -18,7 +18,7 @@ use Rattle.channel.specs.declared.Channel.{Channel}
 use Rattle.channel.specs.Set.{_⟨current≔_⟩, _⟨base≔_⟩, _⟨mode≔_⟩, _⟨chain≔_⟩}
 use Rattle.channel.specs.Loading.{addressWith, withA, withB, withCount, loaded}
 use Rattle.channel.specs.Ending.{saved, withIp}
-use Rattle.controller.specs.Controller.{resetChannel}
+use Rattle.channel.specs.Reset.{resetChannel}
 use Rattle.commanding.specs.Commands.{cieBy, ipBy, chainStarted, cannotChain}
 use Rattle.writing.specs.Writing.{chainWritten, registerWritten}
 use Rattle.udc.specs.Lines.{lined}

@@ -1,13 +1,13 @@
 -- The promises are not empty: machines and stretches for which all their premises hold. Assumes nothing.
 use mathlib.Core.Path.{_≡_, refl, sym, ap, subst}
-use mathlib.Core.Logic.{_⊎_, inl, inr}
+use mathlib.Core.Logic.{inl, inr}
 use mathlib.Core.Bool.{Bool, true, false, true≢false}
 use mathlib.Core.List.{List, [], _∷_}
 use Prim.Native.Nat.{ℕ, zero, suc, _+_, _≤_, _<_}
 use native.Mathlib.Nat.{not-suc-le-zero, le-of-suc-le-suc}
 use native.Mathlib.Omega.{arith}
 use Rattle.facts.specs.Look.{look}
-use Rattle.space.specs.declared.Width.the-variants.{Byte, Word}
+use Rattle.space.specs.declared.Width.the-variants.{Byte}
 use Rattle.space.specs.declared.Place.{Place}
 use Rattle.space.specs.declared.Place.the-variants.{Memory, Io}
 use Rattle.space.specs.Space.{Spaces}
@@ -38,9 +38,9 @@ use Rattle.controller.specs.Step.{unitOf, performOf, stepOf}
 use Rattle.port.specs.declared.Which.{Which}
 use Rattle.port.specs.declared.Which.the-variants.{One, Two}
 use Rattle.udc.specs.Lines.{noRegister, noSet, noChannel}
-use Rattle.promises.specs.Machine.{Machine, step, answer, next-choice, channel, unit, unit-reads, unit-writes}
+use Rattle.promises.specs.Machine.{Machine, step, answer, next-choice, unit-reads, unit-writes}
 use Rattle.promises.specs.Own.{owns, Away}
-use Rattle.promises.specs.Demand2b.{steps, seen, held, place, condition, At, Searched, demand2b}
+use Rattle.promises.specs.Demand2b.{seen, held, place, condition, At, Searched, demand2b}
 use Rattle.promises.specs.Demand3.{Start, Ready, Fine, view, alone, state, Demand3, demand3}
 
 -- a channel with these current registers and this mode, ready to work; the software request is set

@@ -1,10 +1,10 @@
 -- Laws of what is put at a text's end. Assumes nothing.
 use Prim.Native.Nat.{ℕ, zero, suc, _+_, _-_, _/_, _%_, _*_, _^_, _<_, _≤_}
-use mathlib.Core.Path.{_≡_, refl, ap, _∙_, sym}
+use mathlib.Core.Path.{_≡_, refl, ap, sym}
 use mathlib.Core.List.{List, [], _∷_, _++_, append-assoc, append-nil}
 use native.Mathlib.Omega.{arith}
 use lib.ListN.{length, take, set, length-take, length-append}
-use lib.Seq.{take-all, take-append-le, take-suc-set, take-at}
+use lib.Seq.{take-all, take-suc-set, take-at}
 use native.Mathlib.Numerals.{add-one}
 use native.Mathlib.Nat.{le-of-suc-le-suc, not-suc-le-zero, one-le-pow, pow-suc, pow-le-pow-right, lt-of-not-le}
 use borrow.Author.Tests.{lt-ltb, le-ltb}

@@ -1,6 +1,6 @@
 -- Document 01, "Registers" and "Which step comes next": a fresh controller, and the request lines. Assumes nothing.
 use Prim.Native.Nat.{ℕ}
-use mathlib.Core.Bool.{Bool, true, false, not, _&&_, _||_}
+use mathlib.Core.Bool.{Bool, false, not, _&&_, _||_}
 use mathlib.Core.List.{List, [], _∷_}
 use Rattle.facts.specs.Look.{look}
 use Rattle.port.specs.declared.Which.{Which}

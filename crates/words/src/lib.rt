@@ -1,7 +1,7 @@
 // The controller's state as 72 words that a host keeps, one field a word, and back.
 ghost use mathlib.Core.Path.{_≡_};
 ghost use Rattle.controller.specs.Answers.{channelNumber};
-ghost use Rattle.words.specs.Words.{chainWord, stageWord, progressOf, busWord, servedWord, wordsOf, stageOf, chainOf, busOf, servedOf, stateOf};
+ghost use Rattle.words.specs.Words.{chainWord, stageWord, progressOf, busWord, servedWord, wordsOf, stageOf, chainOf, busOf, servedOf, channelAt, stateOf};
 use chain::Progress;
 use chain::Stage;
 use channel::Channel;
@@ -216,6 +216,131 @@ fn served_of(t: u16) -> Served
     }
 }
 
+// Each channel's words by itself: the check of one function with all of them is slow.
+fn channel_one(w: [u16; 72]) -> Channel
+    ensures { λ r. ⌜ r ≡ channelAt 10 w ⌝ }
+{
+    Channel {
+        current: Set {
+            a: Address {
+                upper: w[10],
+                lower: w[11],
+            },
+            b: Address {
+                upper: w[12],
+                lower: w[13],
+            },
+            count: w[14],
+        },
+        base: Set {
+            a: Address {
+                upper: w[15],
+                lower: w[16],
+            },
+            b: Address {
+                upper: w[17],
+                lower: w[18],
+            },
+            count: w[19],
+        },
+        pattern: w[20],
+        mask: w[21],
+        mode: Mode {
+            high: w[22],
+            low: w[23],
+        },
+        chain: Address {
+            upper: w[24],
+            lower: w[25],
+        },
+        interrupt: Interrupt {
+            cie: w[26] != 0,
+            ip: w[27] != 0,
+            sip: w[28] != 0,
+            vector: (w[29] % 256) as u8,
+            save: w[30],
+        },
+        status: Status {
+            ca: w[31] != 0,
+            nac: w[32] != 0,
+            mch: w[33] != 0,
+            mcl: w[34] != 0,
+            why: Reasons {
+                tc: w[35] != 0,
+                mc: w[36] != 0,
+                eop: w[37] != 0,
+            },
+        },
+        line: Line {
+            active: w[38] != 0,
+            change: w[39] != 0,
+        },
+        pending: w[40] != 0,
+    }
+}
+
+fn channel_two(w: [u16; 72]) -> Channel
+    ensures { λ r. ⌜ r ≡ channelAt 41 w ⌝ }
+{
+    Channel {
+        current: Set {
+            a: Address {
+                upper: w[41],
+                lower: w[42],
+            },
+            b: Address {
+                upper: w[43],
+                lower: w[44],
+            },
+            count: w[45],
+        },
+        base: Set {
+            a: Address {
+                upper: w[46],
+                lower: w[47],
+            },
+            b: Address {
+                upper: w[48],
+                lower: w[49],
+            },
+            count: w[50],
+        },
+        pattern: w[51],
+        mask: w[52],
+        mode: Mode {
+            high: w[53],
+            low: w[54],
+        },
+        chain: Address {
+            upper: w[55],
+            lower: w[56],
+        },
+        interrupt: Interrupt {
+            cie: w[57] != 0,
+            ip: w[58] != 0,
+            sip: w[59] != 0,
+            vector: (w[60] % 256) as u8,
+            save: w[61],
+        },
+        status: Status {
+            ca: w[62] != 0,
+            nac: w[63] != 0,
+            mch: w[64] != 0,
+            mcl: w[65] != 0,
+            why: Reasons {
+                tc: w[66] != 0,
+                mc: w[67] != 0,
+                eop: w[68] != 0,
+            },
+        },
+        line: Line {
+            active: w[69] != 0,
+            change: w[70] != 0,
+        },
+        pending: w[71] != 0,
+    }
+}
+
 pub fn load(w: [u16; 72]) -> Controller
     ensures { λ r. ⌜ r ≡ stateOf w ⌝ }
 {
@@ -239,119 +364,7 @@ pub fn load(w: [u16; 72]) -> Controller
             note: w[8] != 0,
             served,
         },
-        one: Channel {
-            current: Set {
-                a: Address {
-                    upper: w[10],
-                    lower: w[11],
-                },
-                b: Address {
-                    upper: w[12],
-                    lower: w[13],
-                },
-                count: w[14],
-            },
-            base: Set {
-                a: Address {
-                    upper: w[15],
-                    lower: w[16],
-                },
-                b: Address {
-                    upper: w[17],
-                    lower: w[18],
-                },
-                count: w[19],
-            },
-            pattern: w[20],
-            mask: w[21],
-            mode: Mode {
-                high: w[22],
-                low: w[23],
-            },
-            chain: Address {
-                upper: w[24],
-                lower: w[25],
-            },
-            interrupt: Interrupt {
-                cie: w[26] != 0,
-                ip: w[27] != 0,
-                sip: w[28] != 0,
-                vector: (w[29] % 256) as u8,
-                save: w[30],
-            },
-            status: Status {
-                ca: w[31] != 0,
-                nac: w[32] != 0,
-                mch: w[33] != 0,
-                mcl: w[34] != 0,
-                why: Reasons {
-                    tc: w[35] != 0,
-                    mc: w[36] != 0,
-                    eop: w[37] != 0,
-                },
-            },
-            line: Line {
-                active: w[38] != 0,
-                change: w[39] != 0,
-            },
-            pending: w[40] != 0,
-        },
-        two: Channel {
-            current: Set {
-                a: Address {
-                    upper: w[41],
-                    lower: w[42],
-                },
-                b: Address {
-                    upper: w[43],
-                    lower: w[44],
-                },
-                count: w[45],
-            },
-            base: Set {
-                a: Address {
-                    upper: w[46],
-                    lower: w[47],
-                },
-                b: Address {
-                    upper: w[48],
-                    lower: w[49],
-                },
-                count: w[50],
-            },
-            pattern: w[51],
-            mask: w[52],
-            mode: Mode {
-                high: w[53],
-                low: w[54],
-            },
-            chain: Address {
-                upper: w[55],
-                lower: w[56],
-            },
-            interrupt: Interrupt {
-                cie: w[57] != 0,
-                ip: w[58] != 0,
-                sip: w[59] != 0,
-                vector: (w[60] % 256) as u8,
-                save: w[61],
-            },
-            status: Status {
-                ca: w[62] != 0,
-                nac: w[63] != 0,
-                mch: w[64] != 0,
-                mcl: w[65] != 0,
-                why: Reasons {
-                    tc: w[66] != 0,
-                    mc: w[67] != 0,
-                    eop: w[68] != 0,
-                },
-            },
-            line: Line {
-                active: w[69] != 0,
-                change: w[70] != 0,
-            },
-            pending: w[71] != 0,
-        },
+        one: channel_one(w),
+        two: channel_two(w),
     }
 }

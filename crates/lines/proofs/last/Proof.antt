@@ -1,4 +1,3 @@
-use borrow.Author.Needs.{needs}
 use Rattle.lines.specs.Reading.{lastOf}
 use borrow.Author.Tests.{eq-eqb, ne-eqb}
 use Rattle.lines.proofs.last.Statement.{statement}

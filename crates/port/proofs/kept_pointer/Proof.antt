@@ -1,4 +1,3 @@
-use Prim.Native.Nat.{_/_, _%_}
 use native.Mathlib.Omega.{arith}
 use lib.Bits.{and-high}
 use Rattle.port.proofs.kept_pointer.Statement.{statement}

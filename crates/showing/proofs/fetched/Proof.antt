@@ -1,4 +1,3 @@
-use borrow.Author.Needs.{needs}
 use Rattle.showing.specs.State.{fetchedOf}
 use Rattle.showing.proofs.fetched.Statement.{statement}
 use Rattle.showing.proofs.fetched.Tie as tie

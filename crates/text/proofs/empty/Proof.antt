@@ -1,4 +1,3 @@
-use borrow.Author.Needs.{needs}
 use Rattle.text.specs.Text.{written}
 use mathlib.Core.Path.{refl}
 use Rattle.text.proofs.empty.Statement.{statement}

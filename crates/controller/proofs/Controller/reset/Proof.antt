@@ -10,4 +10,4 @@ reset-spec =
     (tie.spec
     (λ c κs. search needs)
     (λ c κs. search needs)
-    (λ c. rw (c .reset-channel2 .ensures, c .before .reset-channel .ensures)))
+    (λ c. rw (c .reset2 .ensures, c .before .reset .ensures)))

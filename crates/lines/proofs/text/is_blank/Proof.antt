@@ -1,4 +1,3 @@
-use borrow.Author.Needs.{needs}
 use Rattle.lines.specs.Words.{isBlank}
 use mathlib.Core.Path.{refl}
 use Rattle.lines.proofs.text.is_blank.Statement.{statement}
