@@ -9,7 +9,7 @@ use Rattle.reload.specs.declared.Entry.the-variants.{CurrentA, CurrentB, Curren
 use Rattle.reload.specs.Reload.{entryOf, restOf, isPair}
 use Rattle.channel.specs.declared.Channel.{Channel}
 use Rattle.channel.specs.Set.{_⟨chain≔_⟩, _⟨status≔_⟩, _⟨ca≔_⟩, _⟨nac≔_⟩, _⟨line≔_⟩, _⟨change≔_⟩, _⟨pending≔_⟩}
-use Rattle.channel.specs.Loading.{loaded}
+use Rattle.loading.specs.Loading.{loaded}
 use Rattle.chain.specs.declared.Progress.{Progress}
 use Rattle.chain.specs.declared.Stage.{Stage}
 use Rattle.chain.specs.declared.Stage.the-variants.{Reload, Entries}

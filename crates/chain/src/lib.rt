@@ -93,7 +93,7 @@ fn load_first(chains: bool, e: Entry, left: u16, w: u16, c: Channel) -> Loaded
         };
     }
     Loaded {
-        channel: next.load(e, false, w),
+        channel: loading::load(e, false, w, next),
         next: Next::More(Progress {
             left,
             second: true,
@@ -113,7 +113,7 @@ fn load_last(chains: bool, e: Entry, p: Progress, w: u16, mut c: Channel) -> Loa
         return Loaded { channel: c, next };
     }
     Loaded {
-        channel: advance(c).load(e, p.second, w),
+        channel: loading::load(e, p.second, w, advance(c)),
         next,
     }
 }

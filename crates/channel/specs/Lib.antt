@@ -1,6 +1,5 @@
 pub mod Set
 pub mod Request
 pub mod Ending
-pub mod Loading
 pub mod EndingLaws
 pub mod Reset

@@ -1,15 +1,13 @@
-// A channel: its registers, its request, its end, and the loading of one word.
+// A channel: its registers, its request and its end.
 ghost use mathlib.Core.Path.{_≡_};
 ghost use Rattle.mode.specs.Mode.{isRequested};
 ghost use Rattle.channel.specs.Request.{arrived, requests, isCandidate};
 ghost use Rattle.channel.specs.Ending.{flagsOf, isTwo, saved, withIp, flagged, interrupted, finished, endOf, movedBy, spent, unended};
 ghost use Rattle.channel.specs.Reset.{resetChannel};
-ghost use Rattle.channel.specs.Loading.{addressWith, withA, withB, compareWith, modeWith, chainWith, loaded};
 use mode::Mode;
 use mode::Reasons;
 use mode::RequestMode;
 use port::Which;
-use reload::Entry;
 use status::Flags;
 use tag::Address;
 use tag::Set;
@@ -81,38 +79,6 @@ fn is_two(which: Which) -> bool
         Which::One => false,
         Which::Two => true,
     }
-}
-
-fn address_with(second: bool, w: u16, a: Address) -> Address
-    ensures { λ r. ⌜ r ≡ addressWith second w a ⌝ }
-{
-    if second {
-        Address {
-            upper: a.upper,
-            lower: w,
-        }
-    } else {
-        Address {
-            upper: tag::kept_tag(w),
-            lower: a.lower,
-        }
-    }
-}
-
-fn with_a(second: bool, w: u16, mut s: Set) -> Set
-    ensures { λ r. ⌜ r ≡ withA second w s ⌝ }
-{
-    let a = address_with(second, w, s.a);
-    s.a = a;
-    s
-}
-
-fn with_b(second: bool, w: u16, mut s: Set) -> Set
-    ensures { λ r. ⌜ r ≡ withB second w s ⌝ }
-{
-    let b = address_with(second, w, s.b);
-    s.b = b;
-    s
 }
 
 impl Channel {
@@ -287,85 +253,5 @@ impl Channel {
         ensures { λ r. ⌜ r ≡ endOf which why (movedBy m self) ⌝ }
     {
         self.with_moved(m).end(which, why)
-    }
-
-    fn with_compare(mut self, second: bool, w: u16) -> Channel
-        ensures { λ r. ⌜ r ≡ compareWith second w self ⌝ }
-    {
-        if second {
-            self.mask = w;
-        } else {
-            self.pattern = w;
-        }
-        self
-    }
-
-    fn with_mode(mut self, second: bool, w: u16) -> Channel
-        ensures { λ r. ⌜ r ≡ modeWith second w self ⌝ }
-    {
-        if second {
-            self.mode.low = w;
-        } else {
-            let high = mode::kept_high(w);
-            self.mode.high = high;
-        }
-        self
-    }
-
-    fn with_chain(mut self, second: bool, w: u16) -> Channel
-        ensures { λ r. ⌜ r ≡ chainWith second w self ⌝ }
-    {
-        if second {
-            self.chain.lower = w;
-        } else {
-            let upper = tag::kept_chain(w);
-            self.chain.upper = upper;
-        }
-        self
-    }
-
-    // The first or only word, or the second, of an entry.
-    pub fn load(mut self, e: Entry, second: bool, w: u16) -> Channel
-        ensures { λ r. ⌜ r ≡ loaded e second w self ⌝ }
-    {
-        match e {
-            Entry::CurrentA => {
-                let set = with_a(second, w, self.current);
-                self.current = set;
-                self
-            }
-            Entry::CurrentB => {
-                let set = with_b(second, w, self.current);
-                self.current = set;
-                self
-            }
-            Entry::CurrentCount => {
-                self.current.count = w;
-                self
-            }
-            Entry::BaseA => {
-                let set = with_a(second, w, self.base);
-                self.base = set;
-                self
-            }
-            Entry::BaseB => {
-                let set = with_b(second, w, self.base);
-                self.base = set;
-                self
-            }
-            Entry::BaseCount => {
-                self.base.count = w;
-                self
-            }
-            Entry::PatternAndMask => self.with_compare(second, w),
-            Entry::Vector => {
-                let vector = (w % 256) as u8;
-                self.interrupt.vector = vector;
-                self
-            }
-            Entry::Mode => self.with_mode(second, w),
-            Entry::ChainAddress => self.with_chain(second, w),
-            Entry::Nothing => self,
-        }
     }
 }

@@ -9,7 +9,21 @@ use Rattle.udc.specs.Lines.{linedAt}
 use Rattle.udc.specs.Acknowledge.{acknowledgeOf}
 use Rattle.running.specs.Run.{runOf}
 use Rattle.lines.specs.declared.Call.{Call}
-use Rattle.lines.specs.declared.Call.the-variants.{Reset, WritePointer, ReadPointer, Write, Read, Set, Get, Line, Acknowledge, Step, Run}
+use Rattle.lines.specs.declared.Call.the-variants.{Reset, WritePointer, ReadPointer, Write, Read, Set, Get, Line, Acknowledge}
+use Rattle.lines.specs.declared.Advance.{Advance}
+use Rattle.lines.specs.declared.Advance.the-variants.{Step, Run}
+
+-- The calls that reach the controller alone.
+unfoldable pub callOf : Call → Controller → Controller
+callOf Reset u = resetOf u
+callOf (WritePointer w) u = pointed w u
+callOf ReadPointer u = u
+callOf (Write w) u = writeOf w u .state
+callOf Read u = u
+callOf (Set p w) u = writeOf w (pointed p u) .state
+callOf (Get p) u = pointed p u
+callOf (Line c active) u = linedAt c active u .state
+callOf Acknowledge u = acknowledgeOf u .state
 
 -- The controller and both spaces.
 pub record Left : Type 0 where
@@ -19,19 +33,10 @@ pub record Left : Type 0 where
 abbrev pub leaves : Controller → Spaces → Left
 leaves u z = record { state = u; spaces = z }
 
-unfoldable pub callOf : Call → Controller → Spaces → Left
-callOf Reset u z = leaves (resetOf u) z
-callOf (WritePointer w) u z = leaves (pointed w u) z
-callOf ReadPointer u z = leaves u z
-callOf (Write w) u z = leaves (writeOf w u .state) z
-callOf Read u z = leaves u z
-callOf (Set p w) u z = leaves (writeOf w (pointed p u) .state) z
-callOf (Get p) u z = leaves (pointed p u) z
-callOf (Line c active) u z = leaves (linedAt c active u .state) z
-callOf Acknowledge u z = leaves (acknowledgeOf u .state) z
-callOf (Step eop) u z =
+unfoldable pub advanceOf : Advance → Controller → Spaces → Left
+advanceOf (Step eop) u z =
     let o = stepOf eop u z in
     leaves (o .stepped .state) (o .spaces)
-callOf (Run n) u z =
+advanceOf (Run n) u z =
     let o = runOf n u z .last in
     leaves (o .stepped .state) (o .spaces)

@@ -5,9 +5,10 @@ ghost use Rattle.space.specs.Space.{spaces};
 ghost use Rattle.writing.specs.Writing.{writeOf};
 ghost use Rattle.udc.specs.Lines.{freshOf, linedAt};
 ghost use Rattle.udc.specs.Acknowledge.{acknowledgeOf};
-ghost use Rattle.console.specs.Calls.{leaves, callOf};
+ghost use Rattle.console.specs.Calls.{callOf, leaves, advanceOf};
 use crate::print;
 use controller::Controller;
+use lines::Advance;
 use lines::Call;
 use lines::Input;
 use lines::Request;
@@ -48,16 +49,17 @@ fn inside(at: usize, n: usize, size: usize) -> usize
     0
 }
 
-fn clear(s: &mut [u8]) {
+fn clear(n: usize, s: &mut [u8]) {
+    let cleared = least(n, s.len());
     let mut i = 0;
-    while i < s.len() {
+    while i < cleared {
         s[i] = 0;
         i += 1;
     }
 }
 
-fn store(s: &mut [u8], at: usize, bytes: &[u8]) -> usize {
-    let stored = inside(at, bytes.len(), s.len());
+fn store(s: &mut [u8], at: usize, n: usize, bytes: &[u8; 64]) -> usize {
+    let stored = inside(at, least(n, 64), s.len());
     let mut i = 0;
     while i < stored {
         s[at + i] = bytes[i];
@@ -111,27 +113,9 @@ fn acknowledge(u: Controller) -> Controller
     given.state
 }
 
-fn step(eop: bool, u: Controller, memory: &mut [u8], io: &mut [u8]) -> Controller
-    ensures { λ r. ⌜ leaves r (spaces (now (memory .exit)) (now (io .exit))) ≡ callOf (Call.Step eop) u (spaces (now (memory .entry)) (now (io .entry))) ⌝ }
-{
-    let stepped = u.step(eop, memory, io);
-    let a = stepped.answer;
-    print::line(wording::step(a));
-    stepped.state
-}
-
-fn run(n: u32, u: Controller, memory: &mut [u8], io: &mut [u8]) -> Controller
-    ensures { λ r. ⌜ leaves r (spaces (now (memory .exit)) (now (io .exit))) ≡ callOf (Call.Run n) u (spaces (now (memory .entry)) (now (io .entry))) ⌝ }
-{
-    let ran = running::run(u, n, memory, io);
-    let a = ran.answer;
-    print::line(wording::run(ran.steps, a));
-    ran.state
-}
-
-// The controller and both spaces are left as the model's definitions say.
-fn make(call: Call, u: Controller, memory: &mut [u8], io: &mut [u8]) -> Controller
-    ensures { λ r. ⌜ leaves r (spaces (now (memory .exit)) (now (io .exit))) ≡ callOf call u (spaces (now (memory .entry)) (now (io .entry))) ⌝ }
+// The controller is left as the model's definitions say.
+fn make(call: Call, u: Controller) -> Controller
+    ensures { λ r. ⌜ r ≡ callOf call u ⌝ }
 {
     match call {
         Call::Reset => {
@@ -160,17 +144,35 @@ fn make(call: Call, u: Controller, memory: &mut [u8], io: &mut [u8]) -> Controll
         }
         Call::Line(c, active) => line(c, active, u),
         Call::Acknowledge => acknowledge(u),
-        Call::Step(eop) => step(eop, u, memory, io),
-        Call::Run(n) => run(n, u, memory, io),
+    }
+}
+
+// So are the controller and both spaces.
+fn go(advance: Advance, u: Controller, memory: &mut [u8], io: &mut [u8]) -> Controller
+    ensures { λ r. ⌜ leaves r (spaces (now (memory .exit)) (now (io .exit))) ≡ advanceOf advance u (spaces (now (memory .entry)) (now (io .entry))) ⌝ }
+{
+    match advance {
+        Advance::Step(eop) => {
+            let stepped = u.step(eop, memory, io);
+            let a = stepped.answer;
+            print::line(wording::step(a));
+            stepped.state
+        }
+        Advance::Run(n) => {
+            let ran = running::run(u, n, memory, io);
+            let a = ran.answer;
+            print::line(wording::run(ran.steps, a));
+            ran.state
+        }
     }
 }
 
 // ---- a line
 
-fn poke(space: Space, at: u32, bytes: &[u8], memory: &mut [u8], io: &mut [u8]) {
+fn poke(space: Space, at: u32, n: usize, bytes: &[u8; 64], memory: &mut [u8], io: &mut [u8]) {
     match space {
-        Space::Memory => print::line(wording::poked(store(memory, at as usize, bytes))),
-        Space::Io => print::line(wording::poked(store(io, at as usize, bytes))),
+        Space::Memory => print::line(wording::poked(store(memory, at as usize, n, bytes))),
+        Space::Io => print::line(wording::poked(store(io, at as usize, n, bytes))),
     }
 }
 
@@ -181,58 +183,53 @@ fn peek(space: Space, at: u32, n: u32, memory: &[u8], io: &[u8]) {
     }
 }
 
+// What is told of a line that makes no call and reaches no space.
+fn tell(request: Request, number: u64, u: Controller) {
+    match request {
+        Request::Unreadable => print::line(wording::not_understood(number)),
+        Request::TooLarge => print::line(wording::too_large(number)),
+        Request::State => print::state(u),
+        Request::Help => print::help(),
+        _ => {}
+    }
+}
+
 // What a line asks, over the bytes that are lent.
 fn serve(
     request: Request,
     number: u64,
-    bytes: &[u8],
+    bytes: &[u8; 64],
     u: Controller,
     memory: &mut [u8],
     io: &mut [u8],
 ) -> Controller {
     match request {
-        Request::Nothing => u,
-        Request::Unreadable => {
-            print::line(wording::not_understood(number));
-            u
-        }
-        Request::TooLarge => {
-            print::line(wording::too_large(number));
-            u
-        }
-        Request::Make(call) => make(call, u, memory, io),
+        Request::Make(call) => make(call, u),
+        Request::Advance(advance) => go(advance, u, memory, io),
         Request::Poke(space, at, n) => {
-            let k = least(n, bytes.len());
-            poke(space, at, &bytes[0..k], memory, io);
+            poke(space, at, n, bytes, memory, io);
             u
         }
         Request::Peek(space, at, n) => {
             peek(space, at, n, memory, io);
             u
         }
-        Request::State => {
-            print::state(u);
-            u
-        }
-        Request::Help => {
-            print::help();
+        _ => {
+            tell(request, number, u);
             u
         }
     }
 }
 
 fn lend(space: Space, n: u32, b: Bench, memory: &mut [u8], io: &mut [u8]) -> Bench {
+    print::line(wording::lent(space, n));
     match space {
         Space::Memory => {
-            let k = least(n as usize, memory.len());
-            clear(&mut memory[0..k]);
-            print::line(wording::lent(space, n));
+            clear(n as usize, memory);
             Bench { memory: n, ..b }
         }
         Space::Io => {
-            let k = least(n as usize, io.len());
-            clear(&mut io[0..k]);
-            print::line(wording::lent(space, n));
+            clear(n as usize, io);
             Bench { io: n, ..b }
         }
     }
@@ -262,8 +259,7 @@ pub fn obey(
             );
             Bench {
                 controller: next,
-                memory: b.memory,
-                io: b.io,
+                ..b
             }
         }
     }

@@ -19,12 +19,6 @@ struct Session {
     length: usize,
 }
 
-// A session after a read, and whether there was something to read.
-struct Taken {
-    session: Session,
-    more: bool,
-}
-
 fn input_of(line: &[u8], length: usize, bytes: &mut [u8; 64]) -> lines::Input {
     if length <= line.len() {
         return lines::read_line(&line[0..length], bytes);
@@ -78,26 +72,18 @@ fn take_bytes(
     s
 }
 
-fn take_some(fd: i32, line: &mut Line, s: Session, memory: &mut Memory, io: &mut Io) -> Taken {
-    let mut buf = io::buffer();
-    let got = libc::read(fd, &mut buf);
-    let n = io::count(got, &buf);
-    Taken {
-        session: take_bytes(&buf[..n], line, s, memory, io),
-        more: 0 < n,
-    }
-}
-
 // A proved loop has to end, and nothing says that the input does: the turns are more than any run uses up.
 fn take_all(fd: i32, line: &mut Line, s: Session, memory: &mut Memory, io: &mut Io) -> Session {
     let mut s = s;
     let mut turns = u64::MAX;
     while turns > 0 {
-        let taken = take_some(fd, line, s, memory, io);
-        s = taken.session;
-        if !taken.more {
+        let mut buf = io::buffer();
+        let got = libc::read(fd, &mut buf);
+        let n = io::count(got, &buf);
+        if n == 0 {
             return s;
         }
+        s = take_bytes(&buf[..n], line, s, memory, io);
         turns -= 1;
     }
     s
@@ -119,17 +105,21 @@ fn serve(fd: i32) {
     }
 }
 
-fn serve_file() {
-    // As long as Linux lets an argument be.
-    let mut name = [0u8; 131072];
-    let n = os::arg(1, &mut name);
-    let fd = os::open_read(&name[..n]);
+fn serve_named(name: &[u8]) {
+    let fd = os::open_read(name);
     if fd < 0 {
-        print::cannot_open(&name[..n]);
+        print::cannot_open(name);
         return;
     }
     serve(fd);
     libc::close(fd);
+}
+
+fn serve_file() {
+    // As long as Linux lets an argument be.
+    let mut name = [0u8; 131072];
+    let n = os::arg(1, &mut name);
+    serve_named(&name[..n]);
 }
 
 fn main() {

@@ -9,6 +9,8 @@ use Rattle.chain.specs.declared.Next.the-variants.{More, Complete}
 use Rattle.control.specs.declared.Chain.{Chain}
 use Rattle.control.specs.declared.Chain.the-variants.{NoChain, Of}
 use Rattle.control.specs.declared.Bus.the-variants.{Free, Kept}
+use Rattle.control.specs.declared.Back.{Back}
+use Rattle.control.specs.declared.Back.the-variants.{Note, Bus}
 use Rattle.control.specs.declared.Served.the-variants.{Last}
 use Rattle.control.specs.declared.Control.{Control}
 use Rattle.control.specs.Set.{_⟨chain≔_⟩, _⟨bus≔_⟩, _⟨note≔_⟩}
@@ -39,3 +41,8 @@ controlFetched (More p) cpu active w k = k ⟨chain≔ Of w (Entries p) ⟩
 controlFetched Complete true active w k = k ⟨chain≔ NoChain ⟩ ⟨note≔ true ⟩
 controlFetched Complete false true w k = k ⟨chain≔ NoChain ⟩ ⟨bus≔ Kept w ⟩
 controlFetched Complete false false w k = k ⟨chain≔ NoChain ⟩
+
+-- A give-back note: clear it. Any other mode than demand hold gives the bus back.
+abbrev pub backControl : Back → Control → Control
+backControl Note k = k ⟨note≔ false ⟩
+backControl Bus k = k ⟨bus≔ Free ⟩

@@ -1,4 +1,5 @@
 pub mod Set
 pub mod Rules
+pub mod Channels
 pub mod After
 pub mod Turns

@@ -2,9 +2,11 @@
 ghost use mathlib.Core.Path.{_≡_};
 ghost use mathlib.Core.Bool.{true};
 ghost use Rattle.control.specs.Rules.{isEnabled, isInterleaved, isInterleave, fetchBy, unitBy, turnBy};
-ghost use Rattle.control.specs.After.{chainAfter, unendedControl, endedControl, controlFetched};
+ghost use Rattle.control.specs.After.{chainAfter, unendedControl, endedControl, controlFetched, backControl};
+ghost use Rattle.control.specs.Channels.{keeper, begins, interleaves};
 use chain::Next;
 use chain::Stage;
+use channel::Channel;
 use mode::RequestMode;
 use port::Which;
 
@@ -44,6 +46,12 @@ pub enum Choice {
     Hold(Which),
     Release,
     Idle,
+}
+
+// The two cases of given back: the note, or the bus.
+pub enum Back {
+    Note,
+    Bus,
 }
 
 // Whose turn it is among the candidates.
@@ -131,6 +139,38 @@ pub fn is_interleave(mode: RequestMode) -> bool
         RequestMode::DemandRelease => false,
         RequestMode::DemandInterleave => true,
     }
+}
+
+// A channel that keeps the bus.
+pub fn keeper_choice(w: Which, c: Channel) -> Choice
+    ensures { λ r. ⌜ r ≡ keeper w c ⌝ }
+{
+    if channel::is_requesting(c.mode, c.line) {
+        return unit_choice(unit::unit_refusal(c.mode, c.current), w);
+    }
+    let mode = c.mode.request_mode();
+    match mode {
+        RequestMode::Single => Choice::Release,
+        RequestMode::DemandHold => Choice::Hold(w),
+        RequestMode::DemandRelease => Choice::Release,
+        RequestMode::DemandInterleave => Choice::Release,
+    }
+}
+
+// A candidate begins its chain or does a unit.
+pub fn begin_choice(w: Which, c: Channel) -> Choice
+    ensures { λ r. ⌜ r ≡ begins w c ⌝ }
+{
+    if c.pending {
+        return fetch_choice(Stage::Reload, c.chain.is_odd(), w);
+    }
+    unit_choice(unit::unit_refusal(c.mode, c.current), w)
+}
+
+pub fn is_interleaving(c: Channel) -> bool
+    ensures { λ r. ⌜ r ≡ interleaves c ⌝ }
+{
+    !c.pending & is_interleave(c.mode.request_mode())
 }
 
 // ---- what a step leaves
@@ -222,6 +262,28 @@ pub fn control_fetched(next: Next, cpu: bool, active: bool, w: Which, k: Control
             Control {
                 chain: Chain::NoChain,
                 bus,
+                note: k.note,
+                served,
+            }
+        }
+    }
+}
+
+// The note is cleared, or the bus is free.
+pub fn give_back(back: Back, mut k: Control) -> Control
+    ensures { λ r. ⌜ r ≡ backControl back k ⌝ }
+{
+    match back {
+        Back::Note => {
+            k.note = false;
+            k
+        }
+        Back::Bus => {
+            let chain = k.chain;
+            let served = k.served;
+            Control {
+                chain,
+                bus: Bus::Free,
                 note: k.note,
                 served,
             }

@@ -1,26 +1,26 @@
 -- The rules as laws: what a callee answered, and what the branch on it found, give the definition's case.
 use mathlib.Core.Path.{_≡_, refl, sym, ap, _∙_}
 use mathlib.Core.Bool.{Bool, true, false, _&&_}
-use Prim.Native.Nat.{ℕ}
+use Prim.Native.Nat.{ℕ, _-_}
 use mathlib.Core.List.{List}
-use Rattle.space.specs.declared.Width.the-variants.{Word}
-use Rattle.space.specs.Space.{Spaces, valueIn}
+use Rattle.space.specs.Space.{Spaces}
 use Rattle.port.specs.declared.Which.{Which}
 use Rattle.mode.specs.declared.RequestMode.{RequestMode}
 use Rattle.mode.specs.Mode.{requestModeOf}
 use Rattle.mode.specs.Reasons.{some}
-use Rattle.tag.specs.Address.{isOdd, number}
+use Rattle.tag.specs.Address.{isOdd}
 use Rattle.unit.specs.declared.Work.{Work}
 use Rattle.unit.specs.declared.Moved.{Moved}
-use Rattle.unit.specs.Unit.{unitRefusal, whole, worked}
+use Rattle.units.specs.declared.Carried.{Carried}
+use Rattle.units.specs.Units.{limitOf, carriedAs, onwards}
 use Rattle.channel.specs.declared.Channel.{Channel}
 use Rattle.channel.specs.declared.Ended.{Ended}
 use Rattle.channel.specs.Request.{requests, isCandidate}
 use Rattle.channel.specs.Ending.{reasonsOf, movedBy, unended, endOf, afterBy, afterUnit}
 use Rattle.chain.specs.declared.Stage.{Stage}
-use Rattle.chain.specs.declared.Stage.the-variants.{Reload}
-use Rattle.chain.specs.declared.Loaded.{Loaded}
-use Rattle.chain.specs.Chaining.{fetchedOf, droppedOf}
+use Rattle.chain.specs.Chaining.{droppedOf}
+use Rattle.fetches.specs.declared.Fetched.{Fetched}
+use Rattle.fetches.specs.Fetches.{fetchedAs, fetchesOf}
 use Rattle.control.specs.declared.Chain.{Chain}
 use Rattle.control.specs.declared.Chain.the-variants.{NoChain, Of}
 use Rattle.control.specs.declared.Bus.{Bus}
@@ -36,22 +36,15 @@ use Rattle.control.specs.declared.Choice.the-variants.{Disabled, GiveBack, Unit
 use Rattle.controller.specs.Set.{_⟨control≔_⟩}
 use Rattle.control.specs.Set.{_⟨chain≔_⟩}
 use Rattle.controller.specs.Controller.{at, with}
-use Rattle.controller.specs.Choice.{begins, interleaves, candidateBy, candidate, keeper, choiceBy, choice}
-use Rattle.control.specs.Rules.{isEnabled, isInterleaved, fetchBy, unitBy, beginBy, turnBy}
-use Rattle.controller.specs.Fetching.{fetchOf}
-use Rattle.controller.specs.Step.{outcome, says, workOf, goneOn, endedAfter, unitOf, eopAlone, holdOf, performOf}
+use Rattle.control.specs.Channels.{begins, interleaves, keeper}
+use Rattle.controller.specs.Choice.{candidateBy, candidate, choiceBy, choice}
+use Rattle.control.specs.Rules.{isEnabled, isInterleaved, fetchBy, turnBy}
+use Rattle.controller.specs.Fetching.{fetchedBy, fetchOf}
+use Rattle.controller.specs.Step.{outcome, says, workOf, goneOn, endedAfter, unitOf, eopAlone, holdOf}
+use Rattle.controller.specs.Stride.{once, unitsBy, fetchesBy, strideBy}
 use Rattle.control.specs.After.{chainAfter, unendedControl, controlBy, controlFetched}
 
 -- ---- a candidate
-
-module _ (w : Which) (c : Channel) (r : Choice) where
-  pub begins-chain : (odd : Bool) → c .pending ≡ true → odd ≡ isOdd (c .chain) → r ≡ fetchBy Reload odd w → r ≡ begins w c
-  unfolding begins
-  begins-chain odd p e q = q ∙ ap (λ (x : Bool). fetchBy Reload x w) e ∙ sym (λ i. beginBy (p i) (isOdd (c .chain)) (unitRefusal (c .mode) (c .current)) w)
-
-  pub begins-unit : (n : ℕ) → c .pending ≡ false → n ≡ unitRefusal (c .mode) (c .current) → r ≡ unitBy n w → r ≡ begins w c
-  unfolding begins
-  begins-unit n p e q = q ∙ ap (λ (x : ℕ). unitBy x w) e ∙ sym (λ i. beginBy (p i) (isOdd (c .chain)) (unitRefusal (c .mode) (c .current)) w)
 
 module _ (u : Controller) (x y a b : Bool) (t : Turn) (ex : x ≡ interleaves (u .one)) (ey : y ≡ interleaves (u .two)) (ea : a ≡ isCandidate (u .one))
     (eb : b ≡ isCandidate (u .two)) (et : t ≡ turnBy a b (x && y) (u .control .served)) where
@@ -101,16 +94,21 @@ module _ (u : Controller) where
 -- ---- what a step does
 
 module _ (w : Which) (eop : Bool) (u : Controller) (c : Channel) (s : Controller) (ec : c ≡ at w u) where
-  pub drops : (stage : Stage) (m : List ℕ) (d : Channel) → eop ≡ true → d ≡ droppedOf c → s ≡ with w d (u ⟨control≔ u .control ⟨chain≔ NoChain ⟩ ⟩)
-      → says s (answer.Dropped w) ≡ fetchOf w stage eop u m
+  pub drops : (stage : Stage) (left : ℕ) (m : List ℕ) (d : Channel) → eop ≡ true → d ≡ droppedOf c → s ≡ with w d (u ⟨control≔ u .control ⟨chain≔ NoChain ⟩ ⟩)
+      → once (says s (answer.Dropped w)) ≡ fetchesBy eop w stage left u m
   unfolding fetchOf
-  drops stage m d e ed es = rw (es, ed, ec, e)
+  drops stage left m d e ed es = rw (es, ed, ec, e)
 
-  pub fetches : (stage : Stage) (m : List ℕ) (n v : ℕ) (l : Loaded) (active cpu : Bool) (k : Control) → eop ≡ false → n ≡ number (c .chain) → v ≡ valueIn Word m n
-      → l ≡ fetchedOf stage v c → active ≡ requests (l .channel .mode) (l .channel .line) → cpu ≡ isInterleaved (u .master)
-      → k ≡ controlFetched (l .next) cpu active w (u .control) → s ≡ with w (l .channel) (u ⟨control≔ k ⟩) → says s (answer.Fetched w) ≡ fetchOf w stage eop u m
-  unfolding fetchOf
-  fetches stage m n v l active cpu k e en ev el ea ei ek es = rw (es, ek, ei, ea, el, ev, en, ec, e)
+  pub fetches : (stage : Stage) (left : ℕ) (m : List ℕ) (x : Fetched) (active cpu : Bool) (k : Control) → eop ≡ false
+      → fetchedAs x ≡ fetchesOf m (left - 1) 0 stage c → active ≡ requests (x .channel .mode) (x .channel .line) → cpu ≡ isInterleaved (u .master)
+      → k ≡ controlFetched (x .next) cpu active w (u .control) → s ≡ with w (x .channel) (u ⟨control≔ k ⟩)
+      → record { state = s; answer = answer.Fetched w; steps = x .words } ≡ fetchesBy eop w stage left u m
+  fetches stage left m x active cpu k e ex ea ei ek es =
+      let made : s ≡ fetchedBy w (fetchedAs x .last) u .state = es ∙ (λ i. with w (x .channel) (u ⟨control≔ (ek ∙ (λ j. controlFetched (x .next) (ei j) (ea j) w (u .control))) i ⟩)) in
+      let row : fetchedAs x ≡ fetchesOf m (left - 1) 0 stage (at w u) = ex ∙ ap (fetchesOf m (left - 1) 0 stage) ec in
+      (λ i. record { state = made i; answer = answer.Fetched w; steps = x .words })
+      ∙ (λ i. record { state = fetchedBy w (row i .last) u .state; answer = answer.Fetched w; steps = row i .count })
+      ∙ sym (λ i. fetchesBy (e i) w stage left u m)
 
   pub ends-held : (e : Ended) (chain : Chain) → eop ≡ true → e ≡ endOf w eopAlone c → chain ≡ chainAfter (e .chains) w (u .control .chain)
       → s ≡ with w (e .channel) (u ⟨control≔ record { chain = chain; bus = Free; note = u .control .note; served = u .control .served } ⟩)
@@ -143,9 +141,11 @@ module _ (w : Which) (eop : Bool) (u : Controller) (m : Moved) (s : Controller) 
   unfolding endedAfter settled
   settles-ended h es = ap (λ (x : Controller). says x (answer.Unit w (reasonsOf m eop))) es ∙ is-settled true h
 
-pub does-unit : (w : Which) (eop : Bool) (u : Controller) (k : Work) (m : Moved) (z z′ : Spaces) (r : Stepped) → k ≡ workOf (at w u)
-    → whole m z′ ≡ worked k z → r ≡ unitOf w eop u m → outcome r z′ ≡ performOf (Unit w) eop u z
-unfolding performOf
-does-unit w eop u k m z z′ r ek e er =
-    let f : whole m z′ ≡ worked (workOf (at w u)) z = e ∙ ap (λ (x : Work). worked x z) ek in
-    (λ i. outcome (er i) z′) ∙ (λ i. outcome (unitOf w eop u (f i .moved)) (f i .spaces))
+pub does-units : (w : Which) (left : ℕ) (eop : Bool) (u : Controller) (r : RequestMode) (limit : ℕ) (k : Work) (x : Carried) (z z′ : Spaces) (s : Stepped)
+    → r ≡ requestModeOf (at w u .mode) → limit ≡ limitOf r left eop → k ≡ workOf (at w u) → carriedAs x z′ ≡ onwards (limit - 1) 0 k z → s ≡ unitOf w eop u (x .moved)
+    → record { last = outcome s z′; steps = x .units } ≡ strideBy (Unit w) left eop u z
+unfolding strideBy
+does-units w left eop u r limit k x z z′ s er el ek e es =
+    let most : limit ≡ limitOf (requestModeOf (at w u .mode)) left eop = el ∙ ap (λ (y : RequestMode). limitOf y left eop) er in
+    let f : carriedAs x z′ ≡ onwards (limitOf (requestModeOf (at w u .mode)) left eop - 1) 0 (workOf (at w u)) z = e ∙ (λ i. onwards (most i - 1) 0 (ek i) z) in
+    (λ i. record { last = outcome (es i) z′; steps = x .units }) ∙ (λ i. unitsBy w eop u (f i))

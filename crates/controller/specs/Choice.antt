@@ -1,14 +1,9 @@
 -- Document 01, "Which step comes next": the six rules in their order, by the registers alone, refusals 6, 7 and 8 included.
 -- Assumes nothing.
-use Prim.Native.Nat.{ℕ}
-use mathlib.Core.Bool.{Bool, true, false, not, _&&_}
+use mathlib.Core.Bool.{Bool, true, false, _&&_}
 use Rattle.port.specs.declared.Which.{Which}
-use Rattle.mode.specs.declared.RequestMode.{RequestMode}
-use Rattle.mode.specs.Mode.{requestModeOf}
 use Rattle.tag.specs.Address.{isOdd}
-use Rattle.unit.specs.Unit.{unitRefusal}
-use Rattle.channel.specs.declared.Channel.{Channel}
-use Rattle.channel.specs.Request.{requests, isCandidate}
+use Rattle.channel.specs.Request.{isCandidate}
 use Rattle.chain.specs.declared.Stage.{Stage}
 use Rattle.control.specs.declared.Chain.{Chain}
 use Rattle.control.specs.declared.Chain.the-variants.{NoChain, Of}
@@ -20,18 +15,9 @@ use Rattle.control.specs.declared.Choice.{Choice}
 use Rattle.control.specs.declared.Choice.the-variants.{Disabled, GiveBack, Idle}
 use Rattle.control.specs.declared.Turn.{Turn}
 use Rattle.control.specs.declared.Turn.the-variants.{Nobodys, Whose}
-use Rattle.control.specs.Rules.{isEnabled, fetchBy, keeperBy, beginBy, turnBy, isInterleave}
+use Rattle.control.specs.Rules.{isEnabled, fetchBy, turnBy}
+use Rattle.control.specs.Channels.{keeper, begins, interleaves}
 use Rattle.controller.specs.Controller.{at}
-
-unfoldable pub keeper : Which → Channel → Choice
-keeper w c = keeperBy (requests (c .mode) (c .line)) (requestModeOf (c .mode)) (unitRefusal (c .mode) (c .current)) w
-
-unfoldable pub begins : Which → Channel → Choice
-begins w c = beginBy (c .pending) (isOdd (c .chain)) (unitRefusal (c .mode) (c .current)) w
-
--- a unit in demand interleave, if it is a candidate
-unfoldable pub interleaves : Channel → Bool
-interleaves c = not (c .pending) && isInterleave (requestModeOf (c .mode))
 
 -- Rule 6. "Idle".
 abbrev pub candidateBy : Turn → Controller → Choice

@@ -5,3 +5,5 @@ pub mod Fetching
 pub mod Step
 pub mod Answers
 pub mod StepLaws
+pub mod Stride
+pub mod StrideLaws

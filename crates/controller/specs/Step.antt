@@ -22,13 +22,12 @@ use Rattle.controller.specs.declared.Controller.{Controller}
 use Rattle.controller.specs.declared.Stepped.{Stepped}
 use Rattle.control.specs.declared.Choice.{Choice}
 use Rattle.control.specs.declared.Choice.the-variants.{Disabled, Refused, Fetch, GiveBack, Unit, Hold, Release, Idle}
-use Rattle.controller.specs.declared.Back.{Back}
-use Rattle.controller.specs.declared.Back.the-variants.{Note, Bus}
+use Rattle.control.specs.declared.Back.{Back}
+use Rattle.control.specs.declared.Back.the-variants.{Note, Bus}
 use Rattle.controller.specs.declared.Answer.{Answer}
 use Rattle.controller.specs.declared.Answer.the-variants as answer
 use Rattle.controller.specs.Set.{_⟨control≔_⟩}
-use Rattle.control.specs.Set.{_⟨bus≔_⟩, _⟨note≔_⟩}
-use Rattle.control.specs.After.{chainAfter, unendedControl, endedControl, controlBy}
+use Rattle.control.specs.After.{chainAfter, unendedControl, endedControl, controlBy, backControl}
 use Rattle.controller.specs.Controller.{at, with}
 use Rattle.controller.specs.Choice.{choice}
 use Rattle.control.specs.Rules.{isInterleaved}
@@ -95,10 +94,8 @@ holdOf w eop u = holdBy eop w u (endOf w eopAlone (at w u))
 
 -- ---- given back
 
--- A give-back note: clear it. Any other mode than demand hold gives the bus back.
 abbrev pub backOf : Back → Controller → Stepped
-backOf Note u = says (u ⟨control≔ u .control ⟨note≔ false ⟩ ⟩) (answer.GivenBack Note)
-backOf Bus u = says (u ⟨control≔ u .control ⟨bus≔ Free ⟩ ⟩) (answer.GivenBack Bus)
+backOf back u = says (u ⟨control≔ backControl back (u .control) ⟩) (answer.GivenBack back)
 
 -- ---- a step
 

@@ -4,12 +4,15 @@ ghost use mathlib.Core.Bool.{true};
 ghost use Rattle.space.specs.Space.{spaces};
 ghost use Rattle.controller.specs.Set.{_⟨control≔_⟩};
 ghost use Rattle.controller.specs.Controller.{at, with, resetOf};
-ghost use Rattle.controller.specs.Choice.{keeper, begins, interleaves, candidate, choiceBy, choice};
+ghost use Rattle.control.specs.Channels.{keeper, begins};
+ghost use Rattle.controller.specs.Choice.{candidate, choiceBy, choice};
 ghost use Rattle.mode.specs.Mode.{requestModeOf};
-ghost use Rattle.controller.specs.Fetching.{fetchOf};
-ghost use Rattle.controller.specs.Step.{outcome, workOf, goneOn, endedAfter, unitOf, holdOf, backOf, performOf, stepOf};
+ghost use Rattle.controller.specs.Step.{outcome, workOf, goneOn, endedAfter, unitOf, holdOf, backOf, stepOf};
+ghost use Rattle.controller.specs.Stride.{strode, once, fetchesBy, strideBy, strideOf};
+ghost use Rattle.control.specs.declared.Choice.the-variants as choice;
 use chain::Stage;
 use channel::Channel;
+use control::Back;
 use control::Bus;
 use control::Chain;
 use control::Choice;
@@ -20,8 +23,6 @@ use mode::Reasons;
 use mode::RequestMode;
 use moving::Compared;
 use port::Which;
-use space::MemoryAddress;
-use space::Width;
 use unit::Moved;
 use unit::Work;
 
@@ -31,12 +32,6 @@ pub struct Controller {
     pub control: Control,
     pub one: Channel,
     pub two: Channel,
-}
-
-// The two cases of given back: the note, or the bus.
-pub enum Back {
-    Note,
-    Bus,
 }
 
 pub enum Answer {
@@ -56,39 +51,14 @@ pub struct Stepped {
     pub answer: Answer,
 }
 
+// Steps taken at once: what the last leaves and answers, and how many they were.
+pub struct Strode {
+    pub state: Controller,
+    pub answer: Answer,
+    pub steps: u32,
+}
+
 // ---- which step comes next
-
-// A channel that keeps the bus.
-fn keeper_choice(w: Which, c: Channel) -> Choice
-    ensures { λ r. ⌜ r ≡ keeper w c ⌝ }
-{
-    if channel::is_requesting(c.mode, c.line) {
-        return control::unit_choice(unit::unit_refusal(c.mode, c.current), w);
-    }
-    let mode = c.mode.request_mode();
-    match mode {
-        RequestMode::Single => Choice::Release,
-        RequestMode::DemandHold => Choice::Hold(w),
-        RequestMode::DemandRelease => Choice::Release,
-        RequestMode::DemandInterleave => Choice::Release,
-    }
-}
-
-// A candidate begins its chain or does a unit.
-fn begin_choice(w: Which, c: Channel) -> Choice
-    ensures { λ r. ⌜ r ≡ begins w c ⌝ }
-{
-    if c.pending {
-        return control::fetch_choice(Stage::Reload, c.chain.is_odd(), w);
-    }
-    control::unit_choice(unit::unit_refusal(c.mode, c.current), w)
-}
-
-fn is_interleaving(c: Channel) -> bool
-    ensures { λ r. ⌜ r ≡ interleaves c ⌝ }
-{
-    !c.pending & control::is_interleave(c.mode.request_mode())
-}
 
 // ---- what a step leaves of the controller's own state
 
@@ -164,15 +134,15 @@ impl Controller {
         ensures { λ r. ⌜ r ≡ begins w (at w self) ⌝ }
     {
         match w {
-            Which::One => begin_choice(Which::One, self.one),
-            Which::Two => begin_choice(Which::Two, self.two),
+            Which::One => control::begin_choice(Which::One, self.one),
+            Which::Two => control::begin_choice(Which::Two, self.two),
         }
     }
 
     fn candidate_choice(self) -> Choice
         ensures { λ r. ⌜ r ≡ candidate self ⌝ }
     {
-        let both = is_interleaving(self.one) & is_interleaving(self.two);
+        let both = control::is_interleaving(self.one) & control::is_interleaving(self.two);
         let control = self.control;
         let served = control.served;
         let turn = control::whose_turn(
@@ -191,8 +161,8 @@ impl Controller {
         ensures { λ r. ⌜ r ≡ keeper w (at w self) ⌝ }
     {
         match w {
-            Which::One => keeper_choice(Which::One, self.one),
-            Which::Two => keeper_choice(Which::Two, self.two),
+            Which::One => control::keeper_choice(Which::One, self.one),
+            Which::Two => control::keeper_choice(Which::Two, self.two),
         }
     }
 
@@ -227,9 +197,9 @@ impl Controller {
         Choice::Disabled
     }
 
-    // A chain's fetch, or its end by EOP.
-    fn fetch(self, w: Which, stage: Stage, eop: bool, memory: &[u8]) -> Stepped
-        ensures { λ r. ⌜ r ≡ fetchOf w stage eop self (now (memory .entry)) ⌝ }
+    // Words of a chain, or its end by EOP.
+    fn fetch(self, w: Which, stage: Stage, left: u32, eop: bool, memory: &[u8]) -> Strode
+        ensures { λ r. ⌜ r ≡ fetchesBy eop w stage left self (now (memory .entry)) ⌝ }
     {
         let c = self.channel(w);
         let k = self.control;
@@ -242,13 +212,13 @@ impl Controller {
                 note: k.note,
                 served,
             };
-            return Stepped {
+            return Strode {
                 state: self.with_both(w, chain::drop_chain(c), next),
                 answer: Answer::Dropped(w),
+                steps: 1,
             };
         }
-        let word = space::read_memory(memory, MemoryAddress(c.chain.number()), Width::Word);
-        let l = chain::fetch(stage, word, c);
+        let l = fetches::fetch_on(stage, left, c, memory);
         let d = l.channel;
         let next = l.next;
         let active = channel::is_requesting(d.mode, d.line);
@@ -259,9 +229,10 @@ impl Controller {
             w,
             k,
         );
-        Stepped {
+        Strode {
             state: self.with_both(w, d, after),
             answer: Answer::Fetched(w),
+            steps: l.words,
         }
     }
 
@@ -341,8 +312,8 @@ impl Controller {
     }
 
     // EOP while holding ends the operation.
-    fn hold(self, w: Which, eop: bool) -> Stepped
-        ensures { λ r. ⌜ r ≡ holdOf w eop self ⌝ }
+    fn hold(self, w: Which, eop: bool) -> Strode
+        ensures { λ r. ⌜ r ≡ once (holdOf w eop self) ⌝ }
     {
         if eop {
             let e = self.channel(w).end(
@@ -363,84 +334,99 @@ impl Controller {
                 note: k.note,
                 served,
             };
-            return Stepped {
+            return Strode {
                 state: self.with_both(w, d, after),
                 answer: Answer::Ended(w),
+                steps: 1,
             };
         }
-        Stepped {
+        Strode {
             state: self,
             answer: Answer::Holding(w),
+            steps: 1,
         }
     }
 
     // The note is cleared, or the bus given back.
-    fn give_back(mut self, back: Back) -> Stepped
-        ensures { λ r. ⌜ r ≡ backOf back self ⌝ }
+    fn give_back(mut self, back: Back) -> Strode
+        ensures { λ r. ⌜ r ≡ once (backOf back self) ⌝ }
     {
-        match back {
-            Back::Note => {
-                self.control.note = false;
-                Stepped {
-                    state: self,
-                    answer: Answer::GivenBack(Back::Note),
-                }
-            }
-            Back::Bus => {
-                let k = self.control;
-                let chain = k.chain;
-                let served = k.served;
-                let next = Control {
-                    chain,
-                    bus: Bus::Free,
-                    note: k.note,
-                    served,
-                };
-                self.control = next;
-                Stepped {
-                    state: self,
-                    answer: Answer::GivenBack(Back::Bus),
-                }
-            }
+        let k = self.control;
+        let next = control::give_back(back, k);
+        self.control = next;
+        Strode {
+            state: self,
+            answer: Answer::GivenBack(back),
+            steps: 1,
         }
     }
 
-    fn unit(self, w: Which, eop: bool, memory: &mut [u8], io: &mut [u8]) -> Stepped
-        ensures { λ r. ⌜ outcome r (spaces (now (memory .exit)) (now (io .exit))) ≡ performOf (Choice.Unit w) eop self (spaces (now (memory .entry)) (now (io .entry))) ⌝ }
+    // Units that follow each other, with the bus kept between them.
+    fn units(self, w: Which, left: u32, eop: bool, memory: &mut [u8], io: &mut [u8]) -> Strode
+        ensures { λ r. ⌜ strode r (spaces (now (memory .exit)) (now (io .exit))) ≡ strideBy (choice.Unit w) left eop self (spaces (now (memory .entry)) (now (io .entry))) ⌝ }
     {
-        let m = unit::carry(self.work(w), memory, io);
-        self.settle_unit(w, eop, m)
+        let limit = units::limit(self.request_mode(w), left, eop);
+        let k = units::carry_on(self.work(w), limit, memory, io);
+        let m = k.moved;
+        let s = self.settle_unit(w, eop, m);
+        let state = s.state;
+        let answer = s.answer;
+        Strode {
+            state,
+            answer,
+            steps: k.units,
+        }
     }
 
     // What was chosen is done.
-    fn perform(self, choice: Choice, eop: bool, memory: &mut [u8], io: &mut [u8]) -> Stepped
-        ensures { λ r. ⌜ outcome r (spaces (now (memory .exit)) (now (io .exit))) ≡ performOf choice eop self (spaces (now (memory .entry)) (now (io .entry))) ⌝ }
+    fn perform(
+        self,
+        choice: Choice,
+        left: u32,
+        eop: bool,
+        memory: &mut [u8],
+        io: &mut [u8],
+    ) -> Strode
+        ensures { λ r. ⌜ strode r (spaces (now (memory .exit)) (now (io .exit))) ≡ strideBy choice left eop self (spaces (now (memory .entry)) (now (io .entry))) ⌝ }
     {
         match choice {
-            Choice::Disabled => Stepped {
+            Choice::Disabled => Strode {
                 state: self,
                 answer: Answer::Disabled,
+                steps: 1,
             },
-            Choice::Refused(n) => Stepped {
+            Choice::Refused(n) => Strode {
                 state: self,
                 answer: Answer::Refused(n),
+                steps: 1,
             },
-            Choice::Fetch(w, stage) => self.fetch(w, stage, eop, memory),
+            Choice::Fetch(w, stage) => self.fetch(w, stage, left, eop, memory),
             Choice::GiveBack => self.give_back(Back::Note),
-            Choice::Unit(w) => self.unit(w, eop, memory, io),
+            Choice::Unit(w) => self.units(w, left, eop, memory, io),
             Choice::Hold(w) => self.hold(w, eop),
             Choice::Release => self.give_back(Back::Bus),
-            Choice::Idle => Stepped {
+            Choice::Idle => Strode {
                 state: self,
                 answer: Answer::Idle,
+                steps: 1,
             },
         }
+    }
+
+    // Up to so many steps at once.
+    pub fn stride(self, left: u32, eop: bool, memory: &mut [u8], io: &mut [u8]) -> Strode
+        ensures { λ r. ⌜ strode r (spaces (now (memory .exit)) (now (io .exit))) ≡ strideOf left eop self (spaces (now (memory .entry)) (now (io .entry))) ⌝ }
+    {
+        self.perform(self.choose(), left, eop, memory, io)
     }
 
     // One step, with EOP given or not.
     pub fn step(self, eop: bool, memory: &mut [u8], io: &mut [u8]) -> Stepped
         ensures { λ r. ⌜ outcome r (spaces (now (memory .exit)) (now (io .exit))) ≡ stepOf eop self (spaces (now (memory .entry)) (now (io .entry))) ⌝ }
     {
-        self.perform(self.choose(), eop, memory, io)
+        let s = self.stride(1, eop, memory, io);
+        let state = s.state;
+        let answer = s.answer;
+        Stepped { state, answer }
     }
 }

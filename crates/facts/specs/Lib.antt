@@ -3,3 +3,4 @@ pub mod Bits
 pub mod Masks
 pub mod Lists
 pub mod Look
+pub mod Rows

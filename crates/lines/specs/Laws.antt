@@ -1,15 +1,15 @@
 -- Laws of the loops that read a line. Assumes nothing.
-use Prim.Native.Nat.{ℕ, zero, suc, _+_, _-_, _%_, _<_, _≤_}
+use Prim.Native.Nat.{ℕ, zero, suc, _+_, _%_, _<_, _≤_}
 use mathlib.Core.Path.{_≡_, refl, ap}
 use mathlib.Core.Bool.{Bool, true, false, cond}
 use lib.Dec.{eqb}
 use borrow.Author.Tests.{eq-eqb, ne-eqb}
 use mathlib.Core.List.{List, [], _∷_}
-use native.Mathlib.Nat.{not-suc-le-zero, le-of-suc-le-suc}
 use native.Mathlib.Numerals.{add-one}
 use native.Mathlib.Omega.{arith}
-use lib.ListN.{length, take, drop, set, getD, length-drop}
-use lib.Seq.{drop-cons, take-all}
+use lib.ListN.{length, drop, set, getD}
+use lib.Seq.{drop-cons}
+use Rattle.facts.specs.Lists.{drop-none}
 use Rattle.lines.specs.declared.text.Kind.{Kind}
 use Rattle.lines.specs.declared.text.Base.{Base}
 use Rattle.lines.specs.declared.text.Number.{Number}
@@ -68,13 +68,6 @@ unfolding numberOf
 number-some base [] n = absurd (n refl)
 number-some base (b ∷ bs) n = refl
 
--- at the end of a text nothing is left
-pub drop-none : (n : ℕ) (s : List ℕ) → length s ≤ n → drop n s ≡ []
-drop-none zero [] h = refl
-drop-none (suc n) [] h = refl
-drop-none zero (x ∷ s) h = absurd (not-suc-le-zero h)
-drop-none (suc n) (x ∷ s) h = drop-none n s (le-of-suc-le-suc h)
-
 pub leading-none : (k : Kind) (s : List ℕ) (i : ℕ) → length s ≤ i → leadingOf k (drop i s) ≡ 0
 unfolding leadingOf
 leading-none k s i h = rw (drop-none i s h)
@@ -86,10 +79,6 @@ same-none a b i h g = rw (drop-none i a h, drop-none i b g)
 pub digit-none : (base : Base) (value : ℕ) (s : List ℕ) (i : ℕ) → length s ≤ i → digitsFrom base value (drop i s) ≡ Of value
 unfolding digitsFrom
 digit-none base value s i h = rw (drop-none i s h)
-
--- a part that runs to the end
-pub all-left : (n : ℕ) (s : List ℕ) → take (length s - n) (drop n s) ≡ drop n s
-all-left n s = take-all (length s - n) (drop n s) (simp length-drop (omega arith))
 
 -- no byte is left, no place is left, a byte cannot be read, and a byte is put in its place
 module _ (n : ℕ) (s held : List ℕ) where
@@ -110,9 +99,3 @@ module _ (n : ℕ) (s held : List ℕ) where
       → bytesFrom (suc k) n s held ≡ bytesFrom k (n + 1) (restOf s) (set held n (b % 256))
   unfolding bytesFrom withByte
   fill-on k more e = rw (ne-eqb (length s) 0 more, e)
-
-pub some-left : (n : ℕ) (s : List ℕ) → n < length s → length (drop n s) ≡ 0 → ⊥
-some-left n s h e = omega (arith, length-drop n s)
-
-pub none-left : (n : ℕ) (s : List ℕ) → length s ≤ n → length (drop n s) ≡ 0
-none-left n s h = omega (arith, length-drop n s)

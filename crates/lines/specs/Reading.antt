@@ -7,6 +7,7 @@ use lib.ListN.{length, set}
 use Rattle.lines.specs.declared.Space.{Space}
 use Rattle.lines.specs.declared.Space.the-variants as space
 use Rattle.lines.specs.declared.Call.the-variants as call
+use Rattle.lines.specs.declared.Advance.the-variants as advance
 use Rattle.lines.specs.declared.Request.{Request}
 use Rattle.lines.specs.declared.Request.the-variants as request
 use Rattle.lines.specs.declared.Input.{Input}
@@ -28,10 +29,7 @@ named s (e ∷ es) = cond (sameOf s (e .0)) (e .1) (named s es)
 
 abbrev pub benchNames : List (List ℕ × Name)
 benchNames =
-    (bytes "memory", name.Memory)
-    ∷ (bytes "io", name.Io)
-    ∷ (bytes "poke", name.Poke)
-    ∷ (bytes "peek", name.Peek)
+    (bytes "peek", name.Peek)
     ∷ (bytes "state", name.State)
     ∷ (bytes "help", name.Help)
     ∷ []
@@ -88,11 +86,11 @@ lineOf s = withNumber (upTo255 (numberOf Ten (firstOf s))) (λ c. levelOf (c % 2
 
 unfoldable pub stepOf : List ℕ → Request
 stepOf s =
-    cond (eqb (length s) 0) (request.Make (call.Step false))
-    (cond (sameOf (firstOf s) (bytes "eop")) (lastOf (restOf s) (request.Make (call.Step true))) request.Unreadable)
+    cond (eqb (length s) 0) (request.Advance (advance.Step false))
+    (cond (sameOf (firstOf s) (bytes "eop")) (lastOf (restOf s) (request.Advance (advance.Step true))) request.Unreadable)
 
 unfoldable pub runOf : List ℕ → Request
-runOf s = withNumber (numberOf Ten (firstOf s)) (λ n. lastOf (restOf s) (request.Make (call.Run n)))
+runOf s = withNumber (numberOf Ten (firstOf s)) (λ n. lastOf (restOf s) (request.Advance (advance.Run n)))
 
 -- the most bytes that are lent
 unfoldable pub limitOf : Space → ℕ
@@ -176,27 +174,30 @@ pokeOf s held =
     (λ z. atNumber (hexOf 6 (firstOf (restOf s))) held (λ at. pokedOf z at (bytesFrom 64 0 (restOf (restOf s)) held)))
 
 -- what a line of a name asks, with the words that follow
-unfoldable pub askOf : Name → List ℕ → List ℕ → Taken
-askOf name.Reset s held = taken (Ask (lastOf s (request.Make call.Reset))) held
-askOf name.Pointer s held = taken (Ask (pointerOf s)) held
-askOf name.Write s held = taken (Ask (writeOf s)) held
-askOf name.Read s held = taken (Ask (lastOf s (request.Make call.Read))) held
-askOf name.Set s held = taken (Ask (setOf s)) held
-askOf name.Get s held = taken (Ask (getOf s)) held
-askOf name.Line s held = taken (Ask (lineOf s)) held
-askOf name.Acknowledge s held = taken (Ask (lastOf s (request.Make call.Acknowledge))) held
-askOf name.Step s held = taken (Ask (stepOf s)) held
-askOf name.Run s held = taken (Ask (runOf s)) held
-askOf name.Memory s held = taken (lendOf space.Memory s) held
-askOf name.Io s held = taken (lendOf space.Io s) held
-askOf name.Poke s held = taken (Ask (pokeOf s held .request)) (pokeOf s held .bytes)
-askOf name.Peek s held = taken (Ask (peekOf s)) held
-askOf name.State s held = taken (Ask (lastOf s request.State)) held
-askOf name.Help s held = taken (Ask (lastOf s request.Help)) held
-askOf name.Unknown s held = taken (Ask request.Unreadable) held
+unfoldable pub askOf : Name → List ℕ → Request
+askOf name.Reset s = lastOf s (request.Make call.Reset)
+askOf name.Pointer s = pointerOf s
+askOf name.Write s = writeOf s
+askOf name.Read s = lastOf s (request.Make call.Read)
+askOf name.Set s = setOf s
+askOf name.Get s = getOf s
+askOf name.Line s = lineOf s
+askOf name.Acknowledge s = lastOf s (request.Make call.Acknowledge)
+askOf name.Step s = stepOf s
+askOf name.Run s = runOf s
+askOf name.Peek s = peekOf s
+askOf name.State s = lastOf s request.State
+askOf name.Help s = lastOf s request.Help
+askOf name.Unknown s = request.Unreadable
+
+-- a line whose first word is a space lends it; any other but a poke leaves the bytes
+unfoldable pub wordOf : List ℕ → Named → List ℕ → List ℕ → Taken
+wordOf w (In z) s held = taken (lendOf z s) held
+wordOf w Nowhere s held =
+    cond (sameOf w (bytes "poke")) (taken (Ask (pokeOf s held .request)) (pokeOf s held .bytes)) (taken (Ask (askOf (named w names) s)) held)
 
 -- a line: its comment does not count, and an empty one does nothing
 unfoldable pub readOf : List ℕ → List ℕ → Taken
 readOf line held =
-    cond (eqb (length (codeOf line)) 0) (taken (Ask request.Nothing) held)
-    (askOf (named (firstOf (codeOf line)) names) (restOf (codeOf line)) held)
+    let s = codeOf line in
+    cond (eqb (length s) 0) (taken (Ask request.Nothing) held) (wordOf (firstOf s) (spaceOf (firstOf s)) (restOf s) held)

@@ -1,7 +1,7 @@
 // What a line of the console asks for.
 ghost use mathlib.Core.Path.{_≡_};
 ghost use Prim.Native.Nat.{_%_};
-ghost use Rattle.lines.specs.Reading.{named, names, otherNames, benchNames, lastOf, pointerOf, writeOf, setOf, getOf, levelOf, lineOf, stepOf, runOf, limitOf, lendOf, spaceOf, peekOf, filled, bytesFrom, asked, pokeOf, taken, readOf};
+ghost use Rattle.lines.specs.Reading.{named, names, otherNames, benchNames, lastOf, pointerOf, writeOf, setOf, getOf, levelOf, lineOf, stepOf, runOf, limitOf, lendOf, spaceOf, peekOf, filled, bytesFrom, asked, pokeOf, askOf, taken, readOf};
 
 mod text;
 
@@ -19,7 +19,7 @@ pub enum Space {
     Io,
 }
 
-// The host's calls, with what they are given.
+// The host's calls that reach the controller alone, with what they are given.
 pub enum Call {
     Reset,
     WritePointer(u16),
@@ -30,6 +30,10 @@ pub enum Call {
     Get(u16),
     Line(u8, bool),
     Acknowledge,
+}
+
+// The host's calls that reach both spaces.
+pub enum Advance {
     Step(bool),
     Run(u32),
 }
@@ -40,6 +44,7 @@ pub enum Request {
     Unreadable,
     TooLarge,
     Make(Call),
+    Advance(Advance),
     Poke(Space, u32, usize),
     Peek(Space, u32, u32),
     State,
@@ -63,9 +68,6 @@ enum Name {
     Acknowledge,
     Step,
     Run,
-    Memory,
-    Io,
-    Poke,
     Peek,
     State,
     Help,
@@ -117,15 +119,6 @@ fn name_of_other_call(s: &[u8]) -> Name
 fn name_at_the_bench(s: &[u8]) -> Name
     ensures { λ r. ⌜ r ≡ named (now (s .entry)) benchNames ⌝ }
 {
-    if text::same(s, b"memory") {
-        return Name::Memory;
-    }
-    if text::same(s, b"io") {
-        return Name::Io;
-    }
-    if text::same(s, b"poke") {
-        return Name::Poke;
-    }
     if text::same(s, b"peek") {
         return Name::Peek;
     }
@@ -235,10 +228,10 @@ fn step(s: &[u8]) -> Request
     ensures { λ r. ⌜ r ≡ stepOf (now (s .entry)) ⌝ }
 {
     if s.len() == 0 {
-        return Request::Make(Call::Step(false));
+        return Request::Advance(Advance::Step(false));
     }
     if text::same(text::first(s), b"eop") {
-        return last(text::rest(s), Request::Make(Call::Step(true)));
+        return last(text::rest(s), Request::Advance(Advance::Step(true)));
     }
     Request::Unreadable
 }
@@ -249,7 +242,7 @@ fn run(s: &[u8]) -> Request
     let Number::Of(n) = text::decimal(text::first(s)) else {
         return Request::Unreadable;
     };
-    last(text::rest(s), Request::Make(Call::Run(n)))
+    last(text::rest(s), Request::Advance(Advance::Run(n)))
 }
 
 fn limit(space: Space) -> u32
@@ -353,6 +346,28 @@ fn peek(s: &[u8]) -> Request
     last(text::rest(s), Request::Peek(space, at, n))
 }
 
+// What a line of a name asks, with the words that follow.
+fn ask(name: Name, s: &[u8]) -> Request
+    ensures { λ r. ⌜ r ≡ askOf name (now (s .entry)) ⌝ }
+{
+    match name {
+        Name::Reset => last(s, Request::Make(Call::Reset)),
+        Name::Pointer => pointer(s),
+        Name::Write => write(s),
+        Name::Read => last(s, Request::Make(Call::Read)),
+        Name::Set => set(s),
+        Name::Get => get(s),
+        Name::Line => line(s),
+        Name::Acknowledge => last(s, Request::Make(Call::Acknowledge)),
+        Name::Step => step(s),
+        Name::Run => run(s),
+        Name::Peek => peek(s),
+        Name::State => last(s, Request::State),
+        Name::Help => last(s, Request::Help),
+        Name::Unknown => Request::Unreadable,
+    }
+}
+
 // A line of words; a poke's bytes are put in theirs.
 pub fn read_line(typed: &[u8], bytes: &mut [u8; 64]) -> Input
     ensures { λ r. ⌜ taken r (now (bytes .exit)) ≡ readOf (now (typed .entry)) (now (bytes .entry)) ⌝ }
@@ -361,25 +376,13 @@ pub fn read_line(typed: &[u8], bytes: &mut [u8; 64]) -> Input
     if s.len() == 0 {
         return Input::Ask(Request::Nothing);
     }
+    let word = text::first(s);
     let args = text::rest(s);
-    let name = name_of_port_call(text::first(s));
-    match name {
-        Name::Reset => Input::Ask(last(args, Request::Make(Call::Reset))),
-        Name::Pointer => Input::Ask(pointer(args)),
-        Name::Write => Input::Ask(write(args)),
-        Name::Read => Input::Ask(last(args, Request::Make(Call::Read))),
-        Name::Set => Input::Ask(set(args)),
-        Name::Get => Input::Ask(get(args)),
-        Name::Line => Input::Ask(line(args)),
-        Name::Acknowledge => Input::Ask(last(args, Request::Make(Call::Acknowledge))),
-        Name::Step => Input::Ask(step(args)),
-        Name::Run => Input::Ask(run(args)),
-        Name::Memory => lend(Space::Memory, args),
-        Name::Io => lend(Space::Io, args),
-        Name::Poke => Input::Ask(poke(args, bytes)),
-        Name::Peek => Input::Ask(peek(args)),
-        Name::State => Input::Ask(last(args, Request::State)),
-        Name::Help => Input::Ask(last(args, Request::Help)),
-        Name::Unknown => Input::Ask(Request::Unreadable),
+    if let Named::In(space) = space_named(word) {
+        return lend(space, args);
     }
+    if text::same(word, b"poke") {
+        return Input::Ask(poke(args, bytes));
+    }
+    Input::Ask(ask(name_of_port_call(word), args))
 }

@@ -8,6 +8,7 @@ use controller::Controller;
 use libc::STDOUT_FILENO;
 use port::Which;
 use reading::Reading;
+use running::Ran;
 use space::Direction;
 use space::IoAddress;
 use space::MemoryAddress;
@@ -37,16 +38,18 @@ const TABLE: [u16; 18] = [
     0x1020,
 ];
 
-// A chain table at 100h for a search of two words: current A 000200h, count 2, pattern 1234h, software request, stop on match.
-const SEARCH: [u16; 8] = [
+// A chain table at 100h for a search of the two words behind it: current A 000110h, count 2, pattern 1234h, software request, stop on match.
+const SEARCH: [u16; 10] = [
     0x028A,
     0x0040,
-    0x0200,
+    0x0110,
     0x0002,
     0x1234,
     0x0000,
     0x0012,
     0x002E,
+    0x1111,
+    0x1234,
 ];
 
 // The 16 words of I/O that the channel of Figure 24 moves.
@@ -100,6 +103,10 @@ fn is_write_refused(u: Controller, pointer: u16, w: u16, n: u8) -> bool {
     is_refused(a, n)
 }
 
+fn is_fresh_write_refused(pointer: u16, w: u16, n: u8) -> bool {
+    is_write_refused(udc::fresh(), pointer, w, n)
+}
+
 fn is_read_refused(u: Controller, n: u8) -> bool {
     let a = reading::read(u);
     match a {
@@ -114,10 +121,6 @@ fn is_pointer_right() -> bool {
     (reading::read_pointer(u) == 0x007E) & is_read_refused(u, 1) & is_write_refused(u, 0x00FF, 0, 1)
 }
 
-fn put_word(memory: &mut [u8], io: &mut [u8], p: Place, w: u16) {
-    space::write(memory, io, p, Width::Word, w);
-}
-
 fn is_first(w: Which) -> bool {
     match w {
         Which::One => true,
@@ -128,29 +131,15 @@ fn is_first(w: Which) -> bool {
 // A unit of channel 1 with just these end reasons.
 fn is_unit(a: Answer, tc: bool, mc: bool) -> bool {
     match a {
-        Answer::Refused(_) => false,
-        Answer::Disabled => false,
-        Answer::Idle => false,
-        Answer::GivenBack(_) => false,
-        Answer::Holding(_) => false,
-        Answer::Fetched(_) => false,
-        Answer::Dropped(_) => false,
         Answer::Unit(w, why) => is_first(w) & (why.tc == tc) & (why.mc == mc) & !why.eop,
-        Answer::Ended(_) => false,
+        _ => false,
     }
 }
 
 fn is_idle(a: Answer) -> bool {
     match a {
-        Answer::Refused(_) => false,
-        Answer::Disabled => false,
         Answer::Idle => true,
-        Answer::GivenBack(_) => false,
-        Answer::Holding(_) => false,
-        Answer::Fetched(_) => false,
-        Answer::Dropped(_) => false,
-        Answer::Unit(_, _) => false,
-        Answer::Ended(_) => false,
+        _ => false,
     }
 }
 
@@ -167,7 +156,7 @@ fn store_words(memory: &mut [u8], io: &mut [u8], from: Place, words: &[u16]) {
     let mut at = from;
     let mut i = 0;
     while i < words.len() {
-        put_word(memory, io, at, words[i]);
+        space::write(memory, io, at, Width::Word, words[i]);
         at = at.stepped(Direction::Up, Width::Word);
         i += 1;
     }
@@ -185,21 +174,19 @@ fn has_words(memory: &[u8], io: &[u8], from: Place, words: &[u16]) -> bool {
     right
 }
 
-// Count 2 with the match second ends with TC and MC: 8 words of a chain, a unit that goes on, and the one that ends.
-fn is_match_right() -> bool {
-    let mut bytes = [0u8; 1024];
-    let mut none = [0u8; 2];
-    let memory: &mut [u8] = &mut bytes;
-    let io: &mut [u8] = &mut none;
-    store_words(memory, io, Place::Memory(MemoryAddress(0x0100)), &SEARCH);
-    put_word(memory, io, Place::Memory(MemoryAddress(0x0200)), 0x1111);
-    put_word(memory, io, Place::Memory(MemoryAddress(0x0202)), 0x1234);
+// 8 words of a chain, and a unit that goes on.
+fn does_first_go_on(r: Ran) -> bool {
+    let a = r.answer;
+    (r.steps == 9) & is_unit(a, false, false)
+}
+
+// Count 2 with the match second ends with TC and MC.
+fn is_match_right(memory: &mut [u8], io: &mut [u8]) -> bool {
     let r = running::run(started(1, 0x0100), 9, memory, io);
-    let first = r.answer;
     let u = r.state;
     let s = u.step(false, memory, io);
-    let second = s.answer;
-    (r.steps == 9) & is_unit(first, false, false) & is_unit(second, true, true)
+    let a = s.answer;
+    does_first_go_on(r) & is_unit(a, true, true)
 }
 
 fn is_address(a: Address, upper: u16, lower: u16) -> bool {
@@ -223,66 +210,65 @@ fn is_loaded(c: Channel) -> bool {
 }
 
 // The 18 words of the table are fetched, the note given back, and the channel waits for its line.
-fn is_chain_right(u: Controller, memory: &mut [u8], io: &mut [u8]) -> bool {
-    let r = running::run(u, 100, memory, io);
+fn is_chained(r: Ran) -> bool {
     let a = r.answer;
-    let next = r.state;
-    (r.steps == 19) & is_idle(a) & is_loaded(next.one)
+    let u = r.state;
+    (r.steps == 19) & is_idle(a) & is_loaded(u.one)
+}
+
+fn is_chain_right(memory: &mut [u8], io: &mut [u8]) -> bool {
+    is_chained(running::run(started(0x0007, 0x1020), 100, memory, io))
+}
+
+fn with_line(u: Controller) -> Controller {
+    let l = udc::line(1, true, u);
+    l.state
+}
+
+fn is_ended(r: Ran) -> bool {
+    let a = r.answer;
+    let u = r.state;
+    (r.steps == 16) & is_unit(a, true, false) & u.one.status.nac
 }
 
 // With its line active the channel moves 16 words of I/O in demand hold and ends by TC.
-fn is_block_right(u: Controller, memory: &mut [u8], io: &mut [u8]) -> bool {
-    let r = running::run(u, 19, memory, io);
-    let waiting = r.state;
-    let l = udc::line(1, true, waiting);
-    let active = l.state;
-    let moved = running::run(active, 16, memory, io);
-    let a = moved.answer;
-    let c = moved.state;
-    is_unit(a, true, false)
-        & (moved.steps == 16)
-        & c.one.status.nac
-        & has_words(memory, io, Place::Io(IoAddress(0x1060)), &FRAME)
+fn is_block_right(memory: &mut [u8], io: &mut [u8]) -> bool {
+    let r = running::run(started(0x0007, 0x1020), 19, memory, io);
+    let moved = running::run(with_line(r.state), 16, memory, io);
+    is_ended(moved) & has_words(memory, io, Place::Io(IoAddress(0x1060)), &FRAME)
 }
 
-fn is_figure_right(block: bool) -> bool {
-    let mut bytes = [0u8; 8192];
-    let mut ports = [0u8; 8192];
-    let memory: &mut [u8] = &mut bytes;
-    let io: &mut [u8] = &mut ports;
+// The tables and the words that they move lie apart in both spaces.
+fn store_tables(memory: &mut [u8], io: &mut [u8]) {
+    store_words(memory, io, Place::Memory(MemoryAddress(0x0100)), &SEARCH);
     store_words(memory, io, Place::Memory(MemoryAddress(0x1020)), &TABLE);
     store_words(memory, io, Place::Io(IoAddress(0x1F00)), &FRAME);
-    let u = started(0x0007, 0x1020);
-    if block {
-        is_block_right(u, memory, io)
-    } else {
-        is_chain_right(u, memory, io)
-    }
+}
+
+fn say_what_runs(memory: &mut [u8], io: &mut [u8]) {
+    store_tables(memory, io);
+    say(
+        b"count 2 with the match second ends with TC and MC",
+        is_match_right(memory, io),
+    );
+    say(
+        b"Figures 23 and 24: the chain loads what the table says",
+        is_chain_right(memory, io),
+    );
+    say(
+        b"Figures 23 and 24: the block arrives and ends by TC",
+        is_block_right(memory, io),
+    );
 }
 
 fn main() {
-    say(
-        b"C0h at 2E is 3",
-        is_write_refused(udc::fresh(), 0x2E, 0x00C0, 3),
-    );
-    say(
-        b"26h at 2C is 4",
-        is_write_refused(udc::fresh(), 0x2C, 0x0026, 4),
-    );
+    say(b"C0h at 2E is 3", is_fresh_write_refused(0x2E, 0x00C0, 3));
+    say(b"26h at 2C is 4", is_fresh_write_refused(0x2C, 0x0026, 4));
     say(
         b"pointer 00FFh reads 007Eh and its register is 1",
         is_pointer_right(),
     );
-    say(
-        b"count 2 with the match second ends with TC and MC",
-        is_match_right(),
-    );
-    say(
-        b"Figures 23 and 24: the chain loads what the table says",
-        is_figure_right(false),
-    );
-    say(
-        b"Figures 23 and 24: the block arrives and ends by TC",
-        is_figure_right(true),
-    );
+    let mut bytes = [0u8; 8192];
+    let mut ports = [0u8; 8192];
+    say_what_runs(&mut bytes, &mut ports);
 }

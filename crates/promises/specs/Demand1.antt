@@ -44,7 +44,8 @@ use Rattle.controller.specs.declared.Answer.the-variants as answer
 use Rattle.controller.specs.Answers.{Paper, paper}
 use Rattle.controller.specs.Controller.{at}
 use Rattle.controller.specs.StepLaws.{refused-keeps}
-use Rattle.controller.specs.Choice.{keeper, begins, interleaves, candidateBy, candidate, choiceBy, choice}
+use Rattle.control.specs.Channels.{keeper, begins, interleaves}
+use Rattle.controller.specs.Choice.{candidateBy, candidate, choiceBy, choice}
 use Rattle.control.specs.Rules.{isEnabled, fetchBy, unitBy, keeperBy, beginBy, turnBy}
 use Rattle.controller.specs.Fetching.{fetchOf}
 use Rattle.controller.specs.Step.{Outcome, outcome, says, unitOf, holdOf, performOf, stepOf}

@@ -35,12 +35,13 @@ use Rattle.control.specs.declared.Choice.the-variants as chosen
 use Rattle.controller.specs.declared.Answer.{Answer}
 use Rattle.controller.specs.declared.Answer.the-variants as answer
 use Rattle.control.specs.declared.Control.{Control}
-use Rattle.controller.specs.declared.Back.the-variants.{Note, Bus as TheBus}
+use Rattle.control.specs.declared.Back.the-variants.{Note, Bus as TheBus}
 use Rattle.controller.specs.Answers.{none}
 use Rattle.controller.specs.Controller.{at, with}
 use Rattle.control.specs.declared.Turn.{Turn as Whoever}
 use Rattle.control.specs.Turns.{next-up, takes-turns}
-use Rattle.controller.specs.Choice.{begins, interleaves, candidateBy, candidate, choiceBy, choice}
+use Rattle.control.specs.Channels.{begins, interleaves}
+use Rattle.controller.specs.Choice.{candidateBy, candidate, choiceBy, choice}
 use Rattle.control.specs.Rules.{isEnabled, isInterleaved, unitBy, beginBy, turnBy, isInterleave}
 use Rattle.controller.specs.Step.{Outcome, workOf, unitOf, performOf, stepOf}
 use Rattle.control.specs.After.{unendedControl, controlBy}

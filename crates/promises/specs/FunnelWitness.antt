@@ -29,7 +29,8 @@ use Rattle.control.specs.declared.Bus.the-variants.{Free}
 use Rattle.control.specs.declared.Served.the-variants.{Nobody}
 use Rattle.controller.specs.declared.Controller.{Controller}
 use Rattle.controller.specs.Controller.{at, with}
-use Rattle.controller.specs.Choice.{keeper, begins, interleaves, candidate, choice}
+use Rattle.control.specs.Channels.{keeper, begins, interleaves}
+use Rattle.controller.specs.Choice.{candidate, choice}
 use Rattle.controller.specs.Step.{unitOf, performOf, stepOf}
 use Rattle.port.specs.declared.Which.the-variants.{One}
 use Rattle.udc.specs.Lines.{noChannel}

@@ -37,7 +37,8 @@ use Rattle.controller.specs.declared.Controller.{Controller}
 use Rattle.control.specs.declared.Choice.{Choice}
 use Rattle.control.specs.declared.Choice.the-variants as chosen
 use Rattle.controller.specs.Controller.{at, with}
-use Rattle.controller.specs.Choice.{keeper, begins, candidateBy, candidate, choiceBy, choice, interleaves}
+use Rattle.control.specs.Channels.{keeper, begins, interleaves}
+use Rattle.controller.specs.Choice.{candidateBy, candidate, choiceBy, choice}
 use Rattle.control.specs.Rules.{isEnabled, isInterleaved, fetchBy, unitBy, keeperBy, beginBy, turnBy}
 use Rattle.controller.specs.Fetching.{fetchOf}
 use Rattle.control.specs.After.{controlFetched}

@@ -12,7 +12,7 @@ use Rattle.space.specs.Space.{Spaces}
 use Rattle.laws.specs.Machine.{iter, Every}
 use Rattle.controller.specs.declared.Controller.{Controller}
 use Rattle.controller.specs.declared.Answer.{Answer}
-use Rattle.controller.specs.declared.Back.the-variants.{Note, Bus}
+use Rattle.control.specs.declared.Back.the-variants.{Note, Bus}
 use Rattle.controller.specs.declared.Answer.the-variants.{Refused, Disabled, Idle, GivenBack, Holding, Fetched, Dropped, Unit, Ended}
 use Rattle.controller.specs.Answers.{paper}
 use Rattle.controller.specs.Step.{Outcome, outcome, says}

@@ -16,7 +16,7 @@ use Rattle.reload.specs.declared.Entry.{Entry}
 use Rattle.reload.specs.declared.Entry.the-variants as entry
 use Rattle.channel.specs.declared.Channel.{Channel}
 use Rattle.channel.specs.Set.{_⟨current≔_⟩, _⟨base≔_⟩, _⟨mode≔_⟩, _⟨chain≔_⟩}
-use Rattle.channel.specs.Loading.{addressWith, withA, withB, withCount, loaded}
+use Rattle.loading.specs.Loading.{addressWith, withA, withB, withCount, loaded}
 use Rattle.channel.specs.Ending.{saved, withIp}
 use Rattle.channel.specs.Reset.{resetChannel}
 use Rattle.commanding.specs.Commands.{cieBy, ipBy, chainStarted, cannotChain}

@@ -44,7 +44,8 @@ use Rattle.controller.specs.Step.{workOf, Outcome, outcome, says, unitOf, eopAl
 use Rattle.control.specs.After.{chainAfter, unendedControl, controlBy}
 use Rattle.controller.specs.Set.{_⟨control≔_⟩}
 use Rattle.control.specs.Set.{_⟨chain≔_⟩, _⟨bus≔_⟩, _⟨note≔_⟩}
-use Rattle.controller.specs.Choice.{keeper, begins, interleaves, candidateBy, candidate, choiceBy, choice}
+use Rattle.control.specs.Channels.{keeper, begins, interleaves}
+use Rattle.controller.specs.Choice.{candidateBy, candidate, choiceBy, choice}
 use Rattle.control.specs.Rules.{isEnabled, isInterleaved, fetchBy, unitBy, keeperBy, beginBy, turnBy}
 use Rattle.controller.specs.Fetching.{fetchOf}
 use Rattle.control.specs.After.{controlFetched}

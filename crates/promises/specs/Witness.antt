@@ -33,7 +33,8 @@ use Rattle.control.specs.declared.Served.the-variants.{Nobody}
 use Rattle.control.specs.declared.Choice.{Choice}
 use Rattle.control.specs.declared.Choice.the-variants as chosen
 use Rattle.controller.specs.Controller.{at, with}
-use Rattle.controller.specs.Choice.{keeper, begins, interleaves, candidate, choice}
+use Rattle.control.specs.Channels.{keeper, begins, interleaves}
+use Rattle.controller.specs.Choice.{candidate, choice}
 use Rattle.controller.specs.Step.{unitOf, performOf, stepOf}
 use Rattle.port.specs.declared.Which.{Which}
 use Rattle.port.specs.declared.Which.the-variants.{One, Two}

@@ -1,8 +1,7 @@
 -- One turn of a run at the numbers that the loop has.
-use Prim.Native.Nat.{ℕ, suc, _+_, _-_, _<_, _≤_}
+use Prim.Native.Nat.{ℕ, _+_, _-_, _<_, _≤_}
 use native.Mathlib.Omega.{arith}
-use native.Mathlib.Numerals.{add-one}
-use mathlib.Core.Path.{_≡_, ap}
+use mathlib.Core.Path.{_≡_, sym, ap, subst, _∙_}
 use mathlib.Core.Bool.{Bool, true, false}
 use mathlib.Core.List.{List}
 use lib.ListN.{length}
@@ -12,19 +11,24 @@ use Rattle.controller.specs.declared.Controller.{Controller}
 use Rattle.controller.specs.declared.Answer.{Answer}
 use Rattle.controller.specs.declared.Answer.the-variants.{Refused}
 use Rattle.controller.specs.Step.{Outcome, outcome, says}
-use Rattle.running.specs.Run.{RunOutcome, stops, nextBy, advanced, advanceOf, runOf}
+use Rattle.controller.specs.declared.Strode.{Strode}
+use Rattle.controller.specs.Stride.{Stride, strode}
+use Rattle.running.specs.Run.{stops, advanced, advanceOf, runOf}
+use Rattle.running.specs.Strides.{Strides}
 
-pub stopped : (eop : Bool) (n k : ℕ) (o p : Outcome) → k < n → p ≡ nextBy eop o → stops (p .stepped .answer) ≡ true → record { last = p; steps = k } ≡ advanced eop (n - k) k o
-unfolding advanced
-stopped eop n k o p h e s =
-    let d : n - k ≡ suc (n - (k + 1)) = omega arith in
-    rw (d, ← e, s)
+-- a stride that ends the run, and one after which it goes on
+module _ (eop : Bool) (n k : ℕ) (o : Outcome) (s : Stride) (r : Strode) (z : Spaces) (t : Strides eop n k o s) (e : strode r z ≡ s) where
+  pub stopped : stops (r .answer) ≡ true → record { last = outcome (says (r .state) (r .answer)) z; steps = k } ≡ advanced eop (n - k) k o
+  stopped q = ap (λ (x : Stride). record { last = x .last; steps = k }) e ∙ t .stop (sym (ap (λ (x : Stride). stops (x .last .stepped .answer)) e) ∙ q)
 
-pub turned : (eop : Bool) (n k : ℕ) (o p : Outcome) → k < n → p ≡ nextBy eop o → stops (p .stepped .answer) ≡ false → advanced eop (n - (k + 1)) (k + 1) p ≡ advanced eop (n - k) k o
-unfolding advanced
-turned eop n k o p h e s =
-    let d : n - k ≡ suc (n - (k + 1)) = omega arith in
-    rw (d, ← e, s, add-one)
+  pub turned : stops (r .answer) ≡ false
+      → advanced eop (n - (k + r .steps)) (k + r .steps) (outcome (says (r .state) (r .answer)) z) ≡ advanced eop (n - k) k o
+  turned q =
+      ap (λ (x : Stride). advanced eop (n - (k + x .steps)) (k + x .steps) (x .last)) e
+      ∙ t .on (sym (ap (λ (x : Stride). stops (x .last .stepped .answer)) e) ∙ q)
+
+  pub counts : (0 < r .steps) × (k + r .steps ≤ n)
+  counts = subst (λ (x : Stride). (0 < x .steps) × (k + x .steps ≤ n)) (sym e) (t .some, t .within)
 
 pub spent : (eop : Bool) (n k : ℕ) (o : Outcome) → k ≤ n → n ≤ k → record { last = o; steps = k } ≡ advanced eop (n - k) k o
 unfolding advanced

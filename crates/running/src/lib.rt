@@ -28,8 +28,8 @@ fn is_stop(a: Answer) -> bool
     }
 }
 
-// Up to a budget of steps, with EOP given at each or at none. What is linked from C has its only call of the step here, so that the
-// compiler puts the step inside the loop.
+// Up to a budget of steps, with EOP given at each or at none. What is linked from C has its only call of the stride here, so that the
+// compiler puts it inside the loop.
 pub fn advance(u: Controller, budget: u32, eop: bool, memory: &mut [u8], io: &mut [u8]) -> Ran
     ensures { λ r. ⌜ ranAs r (spaces (now (memory .exit)) (now (io .exit))) ≡ advanceOf eop budget u (spaces (now (memory .entry)) (now (io .entry))) ⌝ }
 {
@@ -37,7 +37,7 @@ pub fn advance(u: Controller, budget: u32, eop: bool, memory: &mut [u8], io: &mu
     let mut answer = Answer::Idle;
     let mut done: u32 = 0;
     while done < budget {
-        let next = state.step(eop, memory, io);
+        let next = state.stride(budget - done, eop, memory, io);
         state = next.state;
         answer = next.answer;
         if is_stop(answer) {
@@ -47,7 +47,7 @@ pub fn advance(u: Controller, budget: u32, eop: bool, memory: &mut [u8], io: &mu
                 steps: done,
             };
         }
-        done += 1;
+        done += next.steps;
     }
     Ran {
         state,

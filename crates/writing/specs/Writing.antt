@@ -10,7 +10,7 @@ use Rattle.port.specs.Ports.{writePort}
 use Rattle.reload.specs.declared.Entry.the-variants as entry
 use Rattle.channel.specs.declared.Channel.{Channel}
 use Rattle.channel.specs.Set.{_⟨status≔_⟩, _⟨ca≔_⟩}
-use Rattle.channel.specs.Loading.{loaded}
+use Rattle.loading.specs.Loading.{loaded}
 use Rattle.command.specs.Command.{commandOf}
 use Rattle.controller.specs.declared.Controller.{Controller}
 use Rattle.controller.specs.Controller.{at, with}

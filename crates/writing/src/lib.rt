@@ -13,7 +13,7 @@ use reload::Entry;
 fn write_chain(second: bool, w: u16, c: Channel) -> Channel
     ensures { λ r. ⌜ r ≡ chainWritten second w c ⌝ }
 {
-    let mut next = c.load(Entry::ChainAddress, second, w);
+    let mut next = loading::load(Entry::ChainAddress, second, w, c);
     next.status.ca = false;
     next
 }
@@ -23,22 +23,22 @@ fn register_written(r: Register, w: u16, c: Channel) -> Channel
 {
     match r {
         Register::CommandStatus => c,
-        Register::CurrentAUpper => c.load(Entry::CurrentA, false, w),
-        Register::CurrentALower => c.load(Entry::CurrentA, true, w),
-        Register::CurrentBUpper => c.load(Entry::CurrentB, false, w),
-        Register::CurrentBLower => c.load(Entry::CurrentB, true, w),
-        Register::BaseAUpper => c.load(Entry::BaseA, false, w),
-        Register::BaseALower => c.load(Entry::BaseA, true, w),
-        Register::BaseBUpper => c.load(Entry::BaseB, false, w),
-        Register::BaseBLower => c.load(Entry::BaseB, true, w),
-        Register::CurrentCount => c.load(Entry::CurrentCount, false, w),
-        Register::BaseCount => c.load(Entry::BaseCount, false, w),
-        Register::Pattern => c.load(Entry::PatternAndMask, false, w),
-        Register::Mask => c.load(Entry::PatternAndMask, true, w),
+        Register::CurrentAUpper => loading::load(Entry::CurrentA, false, w, c),
+        Register::CurrentALower => loading::load(Entry::CurrentA, true, w, c),
+        Register::CurrentBUpper => loading::load(Entry::CurrentB, false, w, c),
+        Register::CurrentBLower => loading::load(Entry::CurrentB, true, w, c),
+        Register::BaseAUpper => loading::load(Entry::BaseA, false, w, c),
+        Register::BaseALower => loading::load(Entry::BaseA, true, w, c),
+        Register::BaseBUpper => loading::load(Entry::BaseB, false, w, c),
+        Register::BaseBLower => loading::load(Entry::BaseB, true, w, c),
+        Register::CurrentCount => loading::load(Entry::CurrentCount, false, w, c),
+        Register::BaseCount => loading::load(Entry::BaseCount, false, w, c),
+        Register::Pattern => loading::load(Entry::PatternAndMask, false, w, c),
+        Register::Mask => loading::load(Entry::PatternAndMask, true, w, c),
         Register::Save => c,
-        Register::Vector => c.load(Entry::Vector, false, w),
+        Register::Vector => loading::load(Entry::Vector, false, w, c),
         Register::ModeHigh => c,
-        Register::ModeLow => c.load(Entry::Mode, true, w),
+        Register::ModeLow => loading::load(Entry::Mode, true, w, c),
         Register::ChainUpper => write_chain(false, w, c),
         Register::ChainLower => write_chain(true, w, c),
     }

@@ -9,7 +9,8 @@ use Rattle.lines.specs.declared.text.Number.the-variants.{Unreadable}
 use Rattle.lines.specs.Words.{firstOf, restOf}
 use Rattle.lines.specs.Numbers.{hexOf}
 use Rattle.lines.specs.Reading.{bytesFrom}
-use Rattle.lines.specs.Laws.{all-left, fill-none, fill-full, fill-bad, fill-on, some-left, none-left}
+use Rattle.facts.specs.Lists.{all-left, some-left, none-left}
+use Rattle.lines.specs.Laws.{fill-none, fill-full, fill-bad, fill-on}
 use Rattle.lines.proofs.bytes_of.Statement.{statement}
 use Rattle.lines.proofs.bytes_of.Tie as tie
 

@@ -1,11 +1,11 @@
 use borrow.Author.Needs.{needs}
-use Rattle.lines.specs.Reading.{readOf, askOf}
+use Rattle.lines.specs.Reading.{readOf, wordOf}
 use borrow.Author.Tests.{eq-eqb, ne-eqb}
 use Rattle.lines.proofs.read_line.Statement.{statement}
 use Rattle.lines.proofs.read_line.Tie as tie
 
 pub read-line-spec : {M : Type 1} → statement M
-unfolding readOf askOf
+unfolding readOf wordOf
 read-line-spec =
     tie.close
     (tie.spec
@@ -16,51 +16,12 @@ read-line-spec =
     (λ c κs. search needs)
     (λ c. search needs)
     (λ c κs. search needs)
+    (λ c. rw (← c .before .before .before .before .before .before .before .before .code .ensures, ne-eqb _ _ (c .before .before .before .before .before .before .before .if1 .left), ← c .before .before .before .before .before .rest .ensures, ← c .before .before .before .before .before .before .first .ensures, ← c .before .before .before .before .space-named .ensures, c .before .before .space .given .1, ← c .lend .ensures))
+    (λ c. search needs)
     (λ c. search needs)
     (λ c κs. search needs)
-    (λ c. search needs)
     (λ c κs. search needs)
-    (λ c. search needs)
+    (λ c. rw (← c .before .before .before .before .before .before .before .before .before .before .before .code .ensures, ne-eqb _ _ (c .before .before .before .before .before .before .before .before .before .before .if1 .left), ← c .before .before .before .before .before .before .before .before .rest .ensures, ← c .before .before .before .before .before .before .before .before .before .first .ensures, ← c .before .before .before .before .before .before .before .space-named .ensures, c .before .before .before .before .before .enum-told .given .1, ← c .before .before .before .same .ensures, c .before .before .if2 .taken, ← c .poke .ensures))
     (λ c κs. search needs)
-    (λ c. search needs)
     (λ c κs. search needs)
-    (λ c. search needs)
-    (λ c κs. search needs)
-    (λ c. search needs)
-    (λ c κs. search needs)
-    (λ c. search needs)
-    (λ c κs. search needs)
-    (λ c. search needs)
-    (λ c κs. search needs)
-    (λ c. search needs)
-    (λ c κs. search needs)
-    (λ c. search needs)
-    (λ c κs. search needs)
-    (λ c. search needs)
-    (λ c κs. search needs)
-    (λ c. search needs)
-    (λ c κs. search needs)
-    (λ c. search needs)
-    (λ c κs. search needs)
-    (λ c. search needs)
-    (λ c κs. search needs)
-    (λ c. search needs)
-    (λ c κs. search needs)
-    (λ c. search needs)
-    (λ c. rw (← c .before .before .before .before .before .before .before .code .ensures, ne-eqb _ _ (c .before .before .before .before .before .before .if1 .left), ← c .before .before .before .before .before .rest .ensures, ← c .before .before .before .before .first .ensures, ← c .before .before .before .name-of-port-call .ensures, c .before .enum-told .given .1, ← c .last .ensures))
-    (λ c. rw (← c .before .before .before .before .before .before .before .code .ensures, ne-eqb _ _ (c .before .before .before .before .before .before .if1 .left), ← c .before .before .before .before .before .rest .ensures, ← c .before .before .before .before .first .ensures, ← c .before .before .before .name-of-port-call .ensures, c .before .enum-told2 .given .1, ← c .pointer .ensures))
-    (λ c. rw (← c .before .before .before .before .before .before .before .code .ensures, ne-eqb _ _ (c .before .before .before .before .before .before .if1 .left), ← c .before .before .before .before .before .rest .ensures, ← c .before .before .before .before .first .ensures, ← c .before .before .before .name-of-port-call .ensures, c .before .enum-told3 .given .1, ← c .write .ensures))
-    (λ c. rw (← c .before .before .before .before .before .before .before .code .ensures, ne-eqb _ _ (c .before .before .before .before .before .before .if1 .left), ← c .before .before .before .before .before .rest .ensures, ← c .before .before .before .before .first .ensures, ← c .before .before .before .name-of-port-call .ensures, c .before .enum-told4 .given .1, ← c .last2 .ensures))
-    (λ c. rw (← c .before .before .before .before .before .before .before .code .ensures, ne-eqb _ _ (c .before .before .before .before .before .before .if1 .left), ← c .before .before .before .before .before .rest .ensures, ← c .before .before .before .before .first .ensures, ← c .before .before .before .name-of-port-call .ensures, c .before .enum-told5 .given .1, ← c .set .ensures))
-    (λ c. rw (← c .before .before .before .before .before .before .before .code .ensures, ne-eqb _ _ (c .before .before .before .before .before .before .if1 .left), ← c .before .before .before .before .before .rest .ensures, ← c .before .before .before .before .first .ensures, ← c .before .before .before .name-of-port-call .ensures, c .before .enum-told6 .given .1, ← c .get .ensures))
-    (λ c. rw (← c .before .before .before .before .before .before .before .code .ensures, ne-eqb _ _ (c .before .before .before .before .before .before .if1 .left), ← c .before .before .before .before .before .rest .ensures, ← c .before .before .before .before .first .ensures, ← c .before .before .before .name-of-port-call .ensures, c .before .enum-told7 .given .1, ← c .line .ensures))
-    (λ c. rw (← c .before .before .before .before .before .before .before .code .ensures, ne-eqb _ _ (c .before .before .before .before .before .before .if1 .left), ← c .before .before .before .before .before .rest .ensures, ← c .before .before .before .before .first .ensures, ← c .before .before .before .name-of-port-call .ensures, c .before .enum-told8 .given .1, ← c .last3 .ensures))
-    (λ c. rw (← c .before .before .before .before .before .before .before .code .ensures, ne-eqb _ _ (c .before .before .before .before .before .before .if1 .left), ← c .before .before .before .before .before .rest .ensures, ← c .before .before .before .before .first .ensures, ← c .before .before .before .name-of-port-call .ensures, c .before .enum-told9 .given .1, ← c .step .ensures))
-    (λ c. rw (← c .before .before .before .before .before .before .before .code .ensures, ne-eqb _ _ (c .before .before .before .before .before .before .if1 .left), ← c .before .before .before .before .before .rest .ensures, ← c .before .before .before .before .first .ensures, ← c .before .before .before .name-of-port-call .ensures, c .before .enum-told10 .given .1, ← c .run .ensures))
-    (λ c. rw (← c .before .before .before .before .before .before .before .code .ensures, ne-eqb _ _ (c .before .before .before .before .before .before .if1 .left), ← c .before .before .before .before .before .rest .ensures, ← c .before .before .before .before .first .ensures, ← c .before .before .before .name-of-port-call .ensures, c .before .enum-told11 .given .1, ← c .lend .ensures))
-    (λ c. rw (← c .before .before .before .before .before .before .before .code .ensures, ne-eqb _ _ (c .before .before .before .before .before .before .if1 .left), ← c .before .before .before .before .before .rest .ensures, ← c .before .before .before .before .first .ensures, ← c .before .before .before .name-of-port-call .ensures, c .before .enum-told12 .given .1, ← c .lend2 .ensures))
-    (λ c. rw (← c .before .before .before .before .before .before .before .before .code .ensures, ne-eqb _ _ (c .before .before .before .before .before .before .before .if1 .left), ← c .before .before .before .before .before .before .rest .ensures, ← c .before .before .before .before .before .first .ensures, ← c .before .before .before .before .name-of-port-call .ensures, c .before .before .enum-told13 .given .1, ← c .poke .ensures))
-    (λ c. rw (← c .before .before .before .before .before .before .before .code .ensures, ne-eqb _ _ (c .before .before .before .before .before .before .if1 .left), ← c .before .before .before .before .before .rest .ensures, ← c .before .before .before .before .first .ensures, ← c .before .before .before .name-of-port-call .ensures, c .before .enum-told14 .given .1, ← c .peek .ensures))
-    (λ c. rw (← c .before .before .before .before .before .before .before .code .ensures, ne-eqb _ _ (c .before .before .before .before .before .before .if1 .left), ← c .before .before .before .before .before .rest .ensures, ← c .before .before .before .before .first .ensures, ← c .before .before .before .name-of-port-call .ensures, c .before .enum-told15 .given .1, ← c .last4 .ensures))
-    (λ c. rw (← c .before .before .before .before .before .before .before .code .ensures, ne-eqb _ _ (c .before .before .before .before .before .before .if1 .left), ← c .before .before .before .before .before .rest .ensures, ← c .before .before .before .before .first .ensures, ← c .before .before .before .name-of-port-call .ensures, c .before .enum-told16 .given .1, ← c .last5 .ensures))
-    (λ c. rw (← c .before .before .before .before .before .before .code .ensures, ne-eqb _ _ (c .before .before .before .before .before .if1 .left), ← c .before .before .before .before .rest .ensures, ← c .before .before .before .first .ensures, ← c .before .before .name-of-port-call .ensures, c .enum-told17 .given .1)))
+    (λ c. rw (← c .before .before .before .before .before .before .before .before .before .before .before .code .ensures, ne-eqb _ _ (c .before .before .before .before .before .before .before .before .before .before .if1 .left), ← c .before .before .before .before .before .before .before .before .rest .ensures, ← c .before .before .before .before .before .before .before .before .before .first .ensures, ← c .before .before .before .before .before .before .before .space-named .ensures, c .before .before .before .before .before .enum-told .given .1, ← c .before .before .before .same .ensures, c .before .before .if2 .left, ← c .before .name-of-port-call .ensures, ← c .ask .ensures)))

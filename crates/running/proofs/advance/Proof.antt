@@ -3,7 +3,8 @@ use mathlib.Core.Path.{refl, sym, _∙_}
 use native.Mathlib.Omega.{arith}
 use borrow.Author.Needs.{needs}
 use Rattle.running.specs.Run.{advanceOf}
-use Rattle.running.proofs.Laws.{stopped, turned, spent, begun, Going}
+use Rattle.running.specs.Strides.{strides}
+use Rattle.running.proofs.Laws.{stopped, turned, counts, spent, begun, Going}
 use Rattle.running.proofs.advance.Statement.{statement}
 use Rattle.running.proofs.advance.Tie as tie
 
@@ -16,38 +17,47 @@ abbrev μ-loop : tie.MeasureT-loop
 loop-holds : tie.Need-loop-holds Inv-loop μ-loop
 loop-holds c = record { within = search needs; memory-long = refl; io-long = refl; same = begun _ _ _ }
 
-step-requires : tie.Need-step-requires Inv-loop μ-loop
-step-requires c κs = search needs
+sub-stride : tie.Need-sub-stride Inv-loop μ-loop
+sub-stride c = search needs
+
+stride-requires : tie.Need-stride-requires Inv-loop μ-loop
+stride-requires c κs = search needs
 
 is-stop-requires : tie.Need-is-stop-requires Inv-loop μ-loop
 is-stop-requires c κs = search needs
 
 same-length : tie.Need-same-length Inv-loop μ-loop
-same-length c = c .before .before .before .before .before .before .before .step .kept .1 .1 .0 ∙ c .before .before .before .before .before .before .before .before .before .before .before .loop .inv .memory-long
+same-length c = c .before .before .before .before .before .before .before .stride .kept .1 .1 .1 .0 ∙ c .before .before .before .before .before .before .before .before .before .before .before .loop .inv .memory-long
 
 same-length-2 : tie.Need-same-length-2 Inv-loop μ-loop
-same-length-2 c = c .before .before .before .before .before .before .before .step .kept .1 .1 .1 .0 ∙ c .before .before .before .before .before .before .before .before .before .before .before .loop .inv .io-long
+same-length-2 c = c .before .before .before .before .before .before .before .stride .kept .1 .1 .1 .1 .0 ∙ c .before .before .before .before .before .before .before .before .before .before .before .loop .inv .io-long
 
 returns : tie.Need-returns Inv-loop μ-loop
 unfolding advanceOf
 returns c =
-    stopped _ _ _ _ _ (c .before .before .before .before .before .before .before .before .before .before .loop-test .taken) (c .before .before .before .before .before .before .before .step .ensures) (sym (c .before .is-stop .ensures) ∙ c .if1 .taken)
-    ∙ c .before .before .before .before .before .before .before .before .before .before .before .loop .inv .same
+    let t = strides _ _ _ _ _ (c .before .before .before .before .before .before .before .before .before .before .loop-test .taken) _ in
+    stopped _ _ _ _ _ _ _ t (c .before .before .before .before .before .before .before .stride .ensures) (sym (c .before .is-stop .ensures) ∙ c .if1 .taken) ∙ c .before .before .before .before .before .before .before .before .before .before .before .loop .inv .same
 
 add-done : tie.Need-add-done Inv-loop μ-loop
-add-done c = search needs
+add-done c =
+    let n = counts _ _ _ _ _ _ _ (strides _ _ _ (c .before .before .before .before .before .before .before .before .before .before .before .before .loop .answer) _ (c .before .before .before .before .before .before .before .before .before .before .before .loop-test .taken) _) (c .before .before .before .before .before .before .before .before .stride .ensures) in
+    omega (arith, n .1, c .before .before .before .before .before .before .before .before .before .before .before .before .before .before .before .fits .budget)
 
 loop-less : tie.Need-loop-less Inv-loop μ-loop
-loop-less c = omega (arith, c .before .before .before .before .before .before .before .before .before .before .loop-test .taken)
+loop-less c =
+    let n = counts _ _ _ _ _ _ _ (strides _ _ _ (c .before .before .before .before .before .before .before .before .before .before .before .before .loop .answer) _ (c .before .before .before .before .before .before .before .before .before .before .before .loop-test .taken) _) (c .before .before .before .before .before .before .before .before .stride .ensures) in
+    omega (arith, c .before .before .before .before .before .before .before .before .before .before .before .loop-test .taken, n .0)
 
 loop-again : tie.Need-loop-again Inv-loop μ-loop
 loop-again c =
-    let g = c .before .before .before .before .before .before .before .before .before .before .before .loop .inv in
+    let g = c .before .before .before .before .before .before .before .before .before .before .before .before .loop .inv in
+    let s = c .before .before .before .before .before .before .before .before .stride in
+    let t = strides _ _ _ (c .before .before .before .before .before .before .before .before .before .before .before .before .loop .answer) _ (c .before .before .before .before .before .before .before .before .before .before .before .loop-test .taken) _ in
     record {
-      within = omega (arith, c .before .before .before .before .before .before .before .before .before .before .loop-test .taken);
-      memory-long = c .before .before .before .before .before .before .before .step .kept .1 .1 .0 ∙ g .memory-long;
-      io-long = c .before .before .before .before .before .before .before .step .kept .1 .1 .1 .0 ∙ g .io-long;
-      same = turned _ _ _ _ _ (c .before .before .before .before .before .before .before .before .before .before .loop-test .taken) (c .before .before .before .before .before .before .before .step .ensures) (sym (c .before .is-stop .ensures) ∙ c .if1 .left) ∙ g .same;
+      within = counts _ _ _ _ _ _ _ t (s .ensures) .1;
+      memory-long = s .kept .1 .1 .1 .0 ∙ g .memory-long;
+      io-long = s .kept .1 .1 .1 .1 .0 ∙ g .io-long;
+      same = turned _ _ _ _ _ _ _ t (s .ensures) (sym (c .before .before .is-stop .ensures) ∙ c .before .if1 .left) ∙ g .same;
     }
 
 same-length-3 : tie.Need-same-length-3 Inv-loop μ-loop
@@ -67,7 +77,8 @@ advance-spec =
     Inv-loop
     μ-loop
     loop-holds
-    step-requires
+    sub-stride
+    stride-requires
     is-stop-requires
     same-length
     same-length-2

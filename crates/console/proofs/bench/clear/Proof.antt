@@ -6,10 +6,10 @@ use Rattle.console.proofs.bench.clear.Statement.{statement}
 use Rattle.console.proofs.bench.clear.Tie as tie
 
 abbrev Inv-loop : tie.InvT-loop
-Inv-loop s₀ i₀ s i = (i ≤ length s₀) × (length s ≡ length s₀)
+Inv-loop n s₀ cleared i₀ s i = (i ≤ cleared) × (length s ≡ length s₀)
 
 abbrev μ-loop : tie.MeasureT-loop
-μ-loop s₀ i₀ s i = length s₀ - i
+μ-loop n s₀ cleared i₀ s i = cleared - i
 
 pub clear-spec : {M : Type 1} → statement M
 clear-spec =
@@ -17,6 +17,7 @@ clear-spec =
     (tie.spec
     Inv-loop
     μ-loop
+    (λ c κs. search needs)
     (λ c. search needs)
     (λ c. search needs)
     (λ c. search needs)

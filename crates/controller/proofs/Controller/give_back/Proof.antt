@@ -6,7 +6,5 @@ pub give-back-spec : {M : Type 1} → statement M
 give-back-spec =
     tie.close
     (tie.spec
-    (λ c. search needs)
-    (λ c. search needs)
-    (λ c. rw (c .before .enum-told .given .1))
-    (λ c. rw (c .before .enum-told2 .given .1)))
+    (λ c κs. search needs)
+    (λ c. rw (c .give-back .ensures)))

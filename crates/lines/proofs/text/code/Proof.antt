@@ -1,6 +1,6 @@
 use borrow.Author.Needs.{needs}
 use Rattle.lines.specs.Words.{codeOf, pastOf, startOf}
-use Rattle.lines.specs.Laws.{all-left}
+use Rattle.facts.specs.Lists.{all-left}
 use native.Mathlib.Nat.{sub-zero}
 use Rattle.lines.proofs.text.code.Statement.{statement}
 use Rattle.lines.proofs.text.code.Tie as tie

@@ -1,6 +1,6 @@
 use borrow.Author.Needs.{needs}
 use Rattle.lines.specs.Words.{restOf, pastOf}
-use Rattle.lines.specs.Laws.{all-left}
+use Rattle.facts.specs.Lists.{all-left}
 use lib.Seq.{drop-drop}
 use denote.Ref.{now}
 use Rattle.lines.proofs.text.past_first.Statement.{statement}

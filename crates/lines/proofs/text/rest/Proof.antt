@@ -1,5 +1,5 @@
 use borrow.Author.Needs.{needs}
-use Rattle.lines.specs.Laws.{all-left}
+use Rattle.facts.specs.Lists.{all-left}
 use Rattle.lines.proofs.text.rest.Statement.{statement}
 use Rattle.lines.proofs.text.rest.Tie as tie
 

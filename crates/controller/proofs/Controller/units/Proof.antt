@@ -1,0 +1,17 @@
+use borrow.Author.Needs.{needs}
+use Rattle.controller.proofs.Laws.{does-units}
+use Rattle.controller.proofs.Controller.units.Statement.{statement}
+use Rattle.controller.proofs.Controller.units.Tie as tie
+
+pub units-spec : {M : Type 1} → statement M
+units-spec =
+    tie.close
+    (tie.spec
+    (λ c κs. search needs)
+    (λ c κs. search needs)
+    (λ c κs. search needs)
+    (λ c κs. search needs)
+    (λ c κs. search needs)
+    (λ c. search needs)
+    (λ c. search needs)
+    (λ c. let a = c .before .before .before .before .before .before .before .before .before .before .before .before .before .before .before .args in does-units (a .w) (a .left) (a .eop) (a .self) _ _ _ _ _ _ _ (c .before .before .before .before .before .before .before .before .before .before .before .before .request-mode .ensures) (c .before .before .before .before .before .before .before .before .before .before .before .limit .ensures) (c .before .before .before .before .before .before .before .before .before .before .work .ensures) (c .before .before .before .before .before .before .before .carry-on .ensures) (c .before .settle-unit .ensures)))

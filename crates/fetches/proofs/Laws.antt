@@ -1,0 +1,39 @@
+-- What a turn of the fetches keeps, at the numbers that the loop has.
+use Prim.Native.Nat.{ℕ, _+_, _-_, _≤_}
+use mathlib.Core.Path.{_≡_, ap, _∙_}
+use mathlib.Core.Bool.{Bool, true, false, _&&_}
+use mathlib.Core.List.{List}
+use lib.Dec.{ltb}
+use Rattle.facts.specs.Rows.{Row, Reached, begun, on-yet, all-done, turn}
+use Rattle.space.specs.declared.Width.the-variants.{Word}
+use Rattle.space.specs.Space.{valueIn}
+use Rattle.tag.specs.Address.{number}
+use Rattle.channel.specs.declared.Channel.{Channel}
+use Rattle.chain.specs.declared.Stage.{Stage}
+use Rattle.chain.specs.declared.Next.{Next}
+use Rattle.chain.specs.declared.Loaded.{Loaded}
+use Rattle.chain.specs.Chaining.{fetchedOf}
+use Rattle.fetches.specs.Fetches.{goesOn, stageAfter, fetchTurns, fetchesOf}
+
+pub record Going (limit : ℕ) (m : List ℕ) (c₀ : Channel) (s₀ : Stage) (c : Channel) (s : Stage) (n : Next) (k : ℕ) (on : Bool) : Type 0 where
+  pub reached : Reached (fetchTurns m) (limit - 1) (fetchesOf m (limit - 1) 0 s₀ c₀) on k (record { stage = s; channel = c }) (record { channel = c; next = n })
+
+pub starts : (limit : ℕ) (m : List ℕ) (c : Channel) (s : Stage) (n : Next) → Going limit m c s c s n 0 true
+starts limit m c s n = record { reached = begun (fetchTurns m) (limit - 1) (record { stage = s; channel = c }) }
+
+module _ (limit : ℕ) (m : List ℕ) (c₀ : Channel) (s₀ : Stage) (c : Channel) (s : Stage) (n : Next) (i : ℕ) (on : Bool) (g : Going limit m c₀ s₀ c s n i on) where
+  abbrev all : Row Loaded
+  all = fetchesOf m (limit - 1) 0 s₀ c₀
+
+  pub room : on ≡ true → i ≤ limit - 1
+  room e = on-yet (fetchTurns m) (limit - 1) all i (record { stage = s; channel = c }) (record { channel = c; next = n }) on e (g .reached) .0
+
+  pub goes : (a w : ℕ) (l : Loaded) (f : Bool) (v : Stage) → on ≡ true → a ≡ number (c .chain) → w ≡ valueIn Word m a → l ≡ fetchedOf s w c
+      → f ≡ goesOn (l .next) → v ≡ stageAfter (l .next) s → Going limit m c₀ s₀ (l .channel) v (l .next) (i + 1) (ltb (i + 1) limit && f)
+  goes a w l f v e ea ew el ef ev =
+      let k = el ∙ ap (λ (x : ℕ). fetchedOf s x c) (ew ∙ ap (valueIn Word m) ea) in
+      let r = on-yet (fetchTurns m) (limit - 1) all i (record { stage = s; channel = c }) (record { channel = c; next = n }) on e (g .reached) in
+      record { reached = turn (fetchTurns m) limit i all (record { stage = s; channel = c }) l (r .0) (r .1) k f (record { stage = v; channel = l .channel }) ef (λ j. record { stage = ev j; channel = l .channel }) }
+
+  pub ends : on ≡ false → record { last = record { channel = c; next = n }; count = i } ≡ all
+  ends e = all-done (fetchTurns m) (limit - 1) all i (record { stage = s; channel = c }) (record { channel = c; next = n }) on e (g .reached)
