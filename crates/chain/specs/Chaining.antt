@@ -1,6 +1,6 @@
 -- Document 01, "Chaining": one word of a chain, and what comes after it. Assumes nothing.
 use Prim.Native.Nat.{ℕ, _%_}
-use mathlib.Core.Bool.{Bool, true, false, not, _&&_}
+use mathlib.Core.Bool.{Bool, true, false, not, cond, _&&_}
 use lib.Dec.{eqb}
 use Rattle.tag.specs.Tag.{keptChain}
 use Rattle.tag.specs.Address.{fetchedOn}
@@ -62,6 +62,10 @@ loadEntryBy false e p w c = loadLastBy (isChainAddress e) e p w c
 
 unfoldable pub loadEntry : Entry → Progress → ℕ → Channel → Loaded
 loadEntry e p w c = loadEntryBy (isPair e && not (p .second)) e p w c
+
+-- what comes after a word of another entry than the chain address
+abbrev pub afterRegister : Entry → Progress → Next
+afterRegister e p = cond (isPair e && not (p .second)) (More (record { left = p .left; second = true; upper = 0 })) (nextOf (restOf (p .left)))
 
 abbrev pub loadOf : Stage → ℕ → Channel → Loaded
 loadOf Reload w c = loadReload w c

@@ -1,6 +1,7 @@
 // A chain's word: what it loads, and what the chain fetches after it.
 ghost use mathlib.Core.Path.{_≡_};
-ghost use Rattle.chain.specs.Chaining.{isChainAddress, advanced, nextOf, loadReload, loadFirstBy, loadLastBy, loadEntry, loadOf, settledBy, fetchedOf, droppedOf};
+ghost use Rattle.reload.specs.declared.Entry.the-variants.{ChainAddress};
+ghost use Rattle.chain.specs.Chaining.{isChainAddress, advanced, nextOf, loadReload, afterRegister, loadEntry, loadOf, settledBy, fetchedOf, droppedOf};
 use channel::Channel;
 use reload::Entry;
 
@@ -77,55 +78,54 @@ fn load_reload(w: u16, c: Channel) -> Loaded
     }
 }
 
-// The old chain address is used and read until both words of the new one are there.
-fn load_first(chains: bool, e: Entry, left: u16, w: u16, c: Channel) -> Loaded
-    ensures { λ r. ⌜ r ≡ loadFirstBy chains e left w c ⌝ }
+// The old chain address is used and read until both words of the new one are there; the new one takes its place unstepped.
+fn load_address(p: Progress, w: u16, mut c: Channel) -> Loaded
+    ensures { λ r. ⌜ r ≡ loadEntry ChainAddress p w c ⌝ }
 {
-    let next = advance(c);
-    if chains {
+    if p.second {
+        c.chain.upper = p.upper;
+        c.chain.lower = w;
         return Loaded {
-            channel: next,
-            next: Next::More(Progress {
-                left,
-                second: true,
-                upper: tag::kept_chain(w),
-            }),
+            channel: c,
+            next: what_next(reload::rest(p.left)),
         };
     }
     Loaded {
-        channel: loading::load(e, false, w, next),
+        channel: advance(c),
         next: Next::More(Progress {
-            left,
+            left: p.left,
             second: true,
-            upper: 0,
+            upper: tag::kept_chain(w),
         }),
     }
 }
 
-// A new chain address takes the old one's place unstepped.
-fn load_last(chains: bool, e: Entry, p: Progress, w: u16, mut c: Channel) -> Loaded
-    ensures { λ r. ⌜ r ≡ loadLastBy chains e p w c ⌝ }
+// A first word of two is followed by the second, any other by the next entry.
+fn after_register(e: Entry, p: Progress) -> Next
+    ensures { λ r. ⌜ r ≡ afterRegister e p ⌝ }
 {
-    let next = what_next(reload::rest(p.left));
-    if chains {
-        c.chain.upper = p.upper;
-        c.chain.lower = w;
-        return Loaded { channel: c, next };
-    }
-    Loaded {
-        channel: loading::load(e, p.second, w, advance(c)),
-        next,
+    if e.has_two() & !p.second {
+        Next::More(Progress {
+            left: p.left,
+            second: true,
+            upper: 0,
+        })
+    } else {
+        what_next(reload::rest(p.left))
     }
 }
 
+// One call of the load, so that the compiler puts it inside the fetches' loop.
 fn load_entry(e: Entry, p: Progress, w: u16, c: Channel) -> Loaded
     ensures { λ r. ⌜ r ≡ loadEntry e p w c ⌝ }
 {
-    let chains = is_chain_address(e);
-    if e.has_two() & !p.second {
-        return load_first(chains, e, p.left, w, c);
+    if is_chain_address(e) {
+        return load_address(p, w, c);
     }
-    load_last(chains, e, p, w, c)
+    Loaded {
+        channel: loading::load(e, p.second, w, advance(c)),
+        next: after_register(e, p),
+    }
 }
 
 fn load(stage: Stage, w: u16, c: Channel) -> Loaded

@@ -1,7 +1,7 @@
 // Words of a chain that are fetched one after another.
 ghost use mathlib.Core.Path.{_≡_};
 ghost use Prim.Native.Nat.{_-_};
-ghost use Rattle.fetches.specs.Fetches.{goesOn, stageAfter, fetchedAs, fetchesOf};
+ghost use Rattle.fetches.specs.Fetches.{fetchedAs, fetchesOf};
 use chain::Next;
 use chain::Stage;
 use channel::Channel;
@@ -13,24 +13,6 @@ pub struct Fetched {
     pub channel: Channel,
     pub next: Next,
     pub words: u32,
-}
-
-fn goes_on(next: Next) -> bool
-    ensures { λ r. ⌜ r ≡ goesOn next ⌝ }
-{
-    match next {
-        Next::More(_) => true,
-        Next::Complete => false,
-    }
-}
-
-fn stage_after(next: Next, stage: Stage) -> Stage
-    ensures { λ r. ⌜ r ≡ stageAfter next stage ⌝ }
-{
-    match next {
-        Next::More(p) => Stage::Entries(p),
-        Next::Complete => stage,
-    }
 }
 
 // A word, and those that follow it, up to a limit.
@@ -48,8 +30,15 @@ pub fn fetch_on(first: Stage, limit: u32, c: Channel, memory: &[u8]) -> Fetched
         channel = l.channel;
         next = l.next;
         words += 1;
-        going = (words < limit) & goes_on(next);
-        stage = stage_after(next, stage);
+        match next {
+            Next::More(p) => {
+                stage = Stage::Entries(p);
+                going = words < limit;
+            }
+            Next::Complete => {
+                going = false;
+            }
+        }
     }
     Fetched {
         channel,

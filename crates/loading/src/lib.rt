@@ -1,6 +1,8 @@
 // One word to a register of a channel.
 ghost use mathlib.Core.Path.{_≡_};
+ghost use mathlib.Core.Bool.{false};
 ghost use Rattle.loading.specs.Loading.{addressWith, withA, withB, compareWith, modeWith, chainWith, loaded};
+ghost use Rattle.reload.specs.declared.Entry.the-variants.{CurrentA, CurrentB, CurrentCount, BaseA, BaseB, BaseCount, Vector};
 use channel::Channel;
 use reload::Entry;
 use tag::Address;
@@ -38,7 +40,7 @@ fn with_b(second: bool, w: u16, mut s: Set) -> Set
     s
 }
 
-fn with_compare(second: bool, w: u16, mut c: Channel) -> Channel
+pub fn with_compare(second: bool, w: u16, mut c: Channel) -> Channel
     ensures { λ r. ⌜ r ≡ compareWith second w c ⌝ }
 {
     if second {
@@ -49,7 +51,7 @@ fn with_compare(second: bool, w: u16, mut c: Channel) -> Channel
     c
 }
 
-fn with_mode(second: bool, w: u16, mut c: Channel) -> Channel
+pub fn with_mode(second: bool, w: u16, mut c: Channel) -> Channel
     ensures { λ r. ⌜ r ≡ modeWith second w c ⌝ }
 {
     if second {
@@ -61,7 +63,7 @@ fn with_mode(second: bool, w: u16, mut c: Channel) -> Channel
     c
 }
 
-fn with_chain(second: bool, w: u16, mut c: Channel) -> Channel
+pub fn with_chain(second: bool, w: u16, mut c: Channel) -> Channel
     ensures { λ r. ⌜ r ≡ chainWith second w c ⌝ }
 {
     if second {
@@ -73,47 +75,97 @@ fn with_chain(second: bool, w: u16, mut c: Channel) -> Channel
     c
 }
 
-// The first or only word, or the second, of an entry.
-pub fn load(e: Entry, second: bool, w: u16, mut c: Channel) -> Channel
+pub fn current_a(second: bool, w: u16, mut c: Channel) -> Channel
+    ensures { λ r. ⌜ r ≡ loaded CurrentA second w c ⌝ }
+{
+    let set = with_a(second, w, c.current);
+    c.current = set;
+    c
+}
+
+pub fn current_b(second: bool, w: u16, mut c: Channel) -> Channel
+    ensures { λ r. ⌜ r ≡ loaded CurrentB second w c ⌝ }
+{
+    let set = with_b(second, w, c.current);
+    c.current = set;
+    c
+}
+
+pub fn base_a(second: bool, w: u16, mut c: Channel) -> Channel
+    ensures { λ r. ⌜ r ≡ loaded BaseA second w c ⌝ }
+{
+    let set = with_a(second, w, c.base);
+    c.base = set;
+    c
+}
+
+pub fn base_b(second: bool, w: u16, mut c: Channel) -> Channel
+    ensures { λ r. ⌜ r ≡ loaded BaseB second w c ⌝ }
+{
+    let set = with_b(second, w, c.base);
+    c.base = set;
+    c
+}
+
+pub fn current_count(w: u16, mut c: Channel) -> Channel
+    ensures { λ r. ⌜ r ≡ loaded CurrentCount false w c ⌝ }
+{
+    c.current.count = w;
+    c
+}
+
+pub fn base_count(w: u16, mut c: Channel) -> Channel
+    ensures { λ r. ⌜ r ≡ loaded BaseCount false w c ⌝ }
+{
+    c.base.count = w;
+    c
+}
+
+pub fn vector(w: u16, mut c: Channel) -> Channel
+    ensures { λ r. ⌜ r ≡ loaded Vector false w c ⌝ }
+{
+    let vector = (w % 256) as u8;
+    c.interrupt.vector = vector;
+    c
+}
+
+// The first or only word, or the second, of an entry. One variable goes through the arms: where several meet, the compiler keeps each.
+pub fn load(e: Entry, second: bool, w: u16, c: Channel) -> Channel
     ensures { λ r. ⌜ r ≡ loaded e second w c ⌝ }
 {
+    let mut next = c;
     match e {
         Entry::CurrentA => {
-            let set = with_a(second, w, c.current);
-            c.current = set;
-            c
+            next = current_a(second, w, c);
         }
         Entry::CurrentB => {
-            let set = with_b(second, w, c.current);
-            c.current = set;
-            c
+            next = current_b(second, w, c);
         }
         Entry::CurrentCount => {
-            c.current.count = w;
-            c
+            next = current_count(w, c);
         }
         Entry::BaseA => {
-            let set = with_a(second, w, c.base);
-            c.base = set;
-            c
+            next = base_a(second, w, c);
         }
         Entry::BaseB => {
-            let set = with_b(second, w, c.base);
-            c.base = set;
-            c
+            next = base_b(second, w, c);
         }
         Entry::BaseCount => {
-            c.base.count = w;
-            c
+            next = base_count(w, c);
         }
-        Entry::PatternAndMask => with_compare(second, w, c),
+        Entry::PatternAndMask => {
+            next = with_compare(second, w, c);
+        }
         Entry::Vector => {
-            let vector = (w % 256) as u8;
-            c.interrupt.vector = vector;
-            c
+            next = vector(w, c);
         }
-        Entry::Mode => with_mode(second, w, c),
-        Entry::ChainAddress => with_chain(second, w, c),
-        Entry::Nothing => c,
+        Entry::Mode => {
+            next = with_mode(second, w, c);
+        }
+        Entry::ChainAddress => {
+            next = with_chain(second, w, c);
+        }
+        Entry::Nothing => {}
     }
+    next
 }

@@ -105,10 +105,6 @@ writtenOf o flip s v = cond flip (toA (funnels o) (widthOfA o) (orderOf s) v) (b
 unfoldable pub datumAt : Operation → Bool → Set → Spaces → ℕ
 datumAt o flip s z = datumOf o flip s (gets z (bytes (readsOf o flip s)))
 
--- the write to side A alone
-unfoldable pub storedToA : Operation → Set → ℕ → Spaces → Spaces
-storedToA o s v z = stores 0 (bytes (sideA (funnels o) (widthOfA o) (s .a))) (toA (funnels o) (widthOfA o) (orderOf s) v) z
-
 unfoldable pub storedAt : Operation → Bool → Set → ℕ → Spaces → Spaces
 storedAt o flip s v z = stores 0 (bytes (writesOf o flip s)) (writtenOf o flip s v) z
 

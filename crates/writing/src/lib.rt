@@ -8,12 +8,11 @@ use controller::Controller;
 use port::Port;
 use port::Register;
 use port::Which;
-use reload::Entry;
 
 fn write_chain(second: bool, w: u16, c: Channel) -> Channel
     ensures { λ r. ⌜ r ≡ chainWritten second w c ⌝ }
 {
-    let mut next = loading::load(Entry::ChainAddress, second, w, c);
+    let mut next = loading::with_chain(second, w, c);
     next.status.ca = false;
     next
 }
@@ -23,22 +22,22 @@ fn register_written(r: Register, w: u16, c: Channel) -> Channel
 {
     match r {
         Register::CommandStatus => c,
-        Register::CurrentAUpper => loading::load(Entry::CurrentA, false, w, c),
-        Register::CurrentALower => loading::load(Entry::CurrentA, true, w, c),
-        Register::CurrentBUpper => loading::load(Entry::CurrentB, false, w, c),
-        Register::CurrentBLower => loading::load(Entry::CurrentB, true, w, c),
-        Register::BaseAUpper => loading::load(Entry::BaseA, false, w, c),
-        Register::BaseALower => loading::load(Entry::BaseA, true, w, c),
-        Register::BaseBUpper => loading::load(Entry::BaseB, false, w, c),
-        Register::BaseBLower => loading::load(Entry::BaseB, true, w, c),
-        Register::CurrentCount => loading::load(Entry::CurrentCount, false, w, c),
-        Register::BaseCount => loading::load(Entry::BaseCount, false, w, c),
-        Register::Pattern => loading::load(Entry::PatternAndMask, false, w, c),
-        Register::Mask => loading::load(Entry::PatternAndMask, true, w, c),
+        Register::CurrentAUpper => loading::current_a(false, w, c),
+        Register::CurrentALower => loading::current_a(true, w, c),
+        Register::CurrentBUpper => loading::current_b(false, w, c),
+        Register::CurrentBLower => loading::current_b(true, w, c),
+        Register::BaseAUpper => loading::base_a(false, w, c),
+        Register::BaseALower => loading::base_a(true, w, c),
+        Register::BaseBUpper => loading::base_b(false, w, c),
+        Register::BaseBLower => loading::base_b(true, w, c),
+        Register::CurrentCount => loading::current_count(w, c),
+        Register::BaseCount => loading::base_count(w, c),
+        Register::Pattern => loading::with_compare(false, w, c),
+        Register::Mask => loading::with_compare(true, w, c),
         Register::Save => c,
-        Register::Vector => loading::load(Entry::Vector, false, w, c),
+        Register::Vector => loading::vector(w, c),
         Register::ModeHigh => c,
-        Register::ModeLow => loading::load(Entry::Mode, true, w, c),
+        Register::ModeLow => loading::with_mode(true, w, c),
         Register::ChainUpper => write_chain(false, w, c),
         Register::ChainLower => write_chain(true, w, c),
     }

@@ -1,16 +1,16 @@
 use borrow.Author.Needs.{needs}
-use Rattle.chain.specs.Chaining.{loadEntry}
+use Rattle.chain.proofs.Laws.{address-loads, register-loads}
 use Rattle.chain.proofs.load_entry.Statement.{statement}
 use Rattle.chain.proofs.load_entry.Tie as tie
 
 pub load-entry-spec : {M : Type 1} → statement M
-unfolding loadEntry
 load-entry-spec =
     tie.close
     (tie.spec
     (λ c κs. search needs)
     (λ c κs. search needs)
+    (λ c. let a = c .before .before .before .args in address-loads (a .e) (a .p) (a .w) (a .c) _ (c .before .before .is-chain-address .ensures) _ (c .before .if1 .taken) (c .load-address .ensures))
     (λ c κs. search needs)
-    (λ c. rw (← c .before .before .before .has-two .ensures, c .before .if1 .taken, ← c .before .before .before .before .is-chain-address .ensures) (c .load-first .ensures))
     (λ c κs. search needs)
-    (λ c. rw (← c .before .before .before .has-two .ensures, c .before .if1 .left, ← c .before .before .before .before .is-chain-address .ensures) (c .load-last .ensures)))
+    (λ c κs. search needs)
+    (λ c. let a = c .before .before .before .before .before .args in register-loads (a .e) (a .p) (a .w) (a .c) _ (c .before .before .before .before .is-chain-address .ensures) _ _ _ (c .before .before .before .if1 .left) (c .before .before .advance .ensures) (c .before .load .ensures) (c .after-register .ensures)))

@@ -1,10 +1,10 @@
 use Prim.Native.Nat.{_-_, _+_}
 use native.Mathlib.Omega.{arith}
-use mathlib.Core.Bool.{cond, _&&_}
+use mathlib.Core.Bool.{false, cond}
 use lib.Dec.{ltb}
 use borrow.Author.Needs.{needs}
 use Rattle.facts.specs.Rows.{fewer-left}
-use Rattle.fetches.proofs.Laws.{Going, starts, room, goes, ends}
+use Rattle.fetches.proofs.Laws.{Going, starts, room, goes-more, goes-complete, ends}
 use Rattle.fetches.proofs.fetch_on.Statement.{statement}
 use Rattle.fetches.proofs.fetch_on.Tie as tie
 
@@ -27,27 +27,35 @@ fetch-requires : tie.Need-fetch-requires Inv-loop μ-loop
 fetch-requires c κs = search needs
 
 add-words : tie.Need-add-words Inv-loop μ-loop
-add-words c =
-    let l = c .before .before .before .before .before .loop in
-    omega (arith, room _ _ _ _ _ _ _ _ _ (l .inv) (c .before .before .before .before .loop-test .taken), c .before .before .before .before .before .before .before .fits .limit)
+add-words c = omega (arith, room _ _ _ _ _ _ _ _ _ (c .before .before .before .before .before .loop .inv) (c .before .before .before .before .loop-test .taken), c .before .before .before .before .before .before .before .fits .limit)
 
-goes-on-requires : tie.Need-goes-on-requires Inv-loop μ-loop
-goes-on-requires c κs = search needs
-
-stage-after-requires : tie.Need-stage-after-requires Inv-loop μ-loop
-stage-after-requires c κs = search needs
+enum-known-next : tie.Need-enum-known-next Inv-loop μ-loop
+enum-known-next c = search needs
 
 loop-less : tie.Need-loop-less Inv-loop μ-loop
 loop-less c =
-    let l = c .before .before .before .before .before .before .before .loop in
-    let on = c .before .before .before .before .before .before .loop-test .taken in
-    fewer-left (l .going) (ltb (l .words + 1) (c .before .before .before .before .before .before .before .before .before .args .limit) && c .before .goes-on .result) _ (l .words) on (room _ _ _ _ _ _ _ _ _ (l .inv) on)
+    let l = c .before .before .before .before .before .before .before .before .loop in
+    let on = c .before .before .before .before .before .before .before .loop-test .taken in
+    fewer-left (l .going) (ltb (l .words + 1) (c .before .before .before .before .before .before .before .before .before .before .args .limit)) _ (l .words) on (room _ _ _ _ _ _ _ _ _ (l .inv) on)
 
 loop-again : tie.Need-loop-again Inv-loop μ-loop
 loop-again c =
+    goes-more _ _ _ _ _ _ _ _ _ (c .before .before .before .before .before .before .before .before .loop .inv) _ _ _ _ (c .before .before .before .before .before .before .before .loop-test .taken) (c .before .before .before .before .before .before .number .ensures) (c .before .before .before .before .before .read-memory .ensures) (c .before .before .before .before .fetch .ensures)
+    (c .before .next .given .1)
+
+enum-told : tie.Need-enum-told Inv-loop μ-loop
+enum-told c = search needs
+
+loop-less-2 : tie.Need-loop-less-2 Inv-loop μ-loop
+loop-less-2 c =
     let l = c .before .before .before .before .before .before .before .loop in
-    goes _ _ _ _ _ _ _ _ _ (l .inv) _ _ _ _ _ (c .before .before .before .before .before .before .loop-test .taken) (c .before .before .before .before .before .number .ensures) (c .before .before .before .before .read-memory .ensures) (c .before .before .before .fetch .ensures) (c .before .goes-on .ensures)
-    (c .stage-after .ensures)
+    let on = c .before .before .before .before .before .before .loop-test .taken in
+    fewer-left (l .going) false (c .before .before .before .before .before .before .before .before .before .args .limit) (l .words) on (room _ _ _ _ _ _ _ _ _ (l .inv) on)
+
+loop-again-2 : tie.Need-loop-again-2 Inv-loop μ-loop
+loop-again-2 c =
+    goes-complete _ _ _ _ _ _ _ _ _ (c .before .before .before .before .before .before .before .loop .inv) _ _ _ (c .before .before .before .before .before .before .loop-test .taken) (c .before .before .before .before .before .number .ensures) (c .before .before .before .before .read-memory .ensures) (c .before .before .before .fetch .ensures)
+    (c .enum-told .given .1)
 
 returns : tie.Need-returns Inv-loop μ-loop
 returns c = ends _ _ _ _ _ _ _ _ _ (c .before .loop .inv) (c .loop-test .left)
@@ -63,8 +71,10 @@ fetch-on-spec =
     read-memory-requires
     fetch-requires
     add-words
-    goes-on-requires
-    stage-after-requires
+    enum-known-next
     loop-less
     loop-again
+    enum-told
+    loop-less-2
+    loop-again-2
     returns)

@@ -1,10 +1,11 @@
 use borrow.Author.Needs.{needs}
+use Rattle.loading.specs.Loading.{loaded}
 use Rattle.writing.specs.Writing.{registerWritten}
 use Rattle.writing.proofs.register_written.Statement.{statement}
 use Rattle.writing.proofs.register_written.Tie as tie
 
 pub register-written-spec : {M : Type 1} → statement M
-unfolding registerWritten
+unfolding registerWritten loaded
 register-written-spec =
     tie.close
     (tie.spec
@@ -44,21 +45,21 @@ register-written-spec =
     (λ c. search needs)
     (λ c κs. search needs)
     (λ c. rw (c .enum-told .given .1))
-    (λ c. rw (c .before .enum-told2 .given .1) (c .load .ensures))
-    (λ c. rw (c .before .enum-told3 .given .1) (c .load2 .ensures))
-    (λ c. rw (c .before .enum-told4 .given .1) (c .load3 .ensures))
-    (λ c. rw (c .before .enum-told5 .given .1) (c .load4 .ensures))
-    (λ c. rw (c .before .enum-told6 .given .1) (c .load5 .ensures))
-    (λ c. rw (c .before .enum-told7 .given .1) (c .load6 .ensures))
-    (λ c. rw (c .before .enum-told8 .given .1) (c .load7 .ensures))
-    (λ c. rw (c .before .enum-told9 .given .1) (c .load8 .ensures))
-    (λ c. rw (c .before .enum-told10 .given .1) (c .load9 .ensures))
-    (λ c. rw (c .before .enum-told11 .given .1) (c .load10 .ensures))
-    (λ c. rw (c .before .enum-told12 .given .1) (c .load11 .ensures))
-    (λ c. rw (c .before .enum-told13 .given .1) (c .load12 .ensures))
+    (λ c. rw (c .before .enum-told2 .given .1) (c .current-a .ensures))
+    (λ c. rw (c .before .enum-told3 .given .1) (c .current-a2 .ensures))
+    (λ c. rw (c .before .enum-told4 .given .1) (c .current-b .ensures))
+    (λ c. rw (c .before .enum-told5 .given .1) (c .current-b2 .ensures))
+    (λ c. rw (c .before .enum-told6 .given .1) (c .base-a .ensures))
+    (λ c. rw (c .before .enum-told7 .given .1) (c .base-a2 .ensures))
+    (λ c. rw (c .before .enum-told8 .given .1) (c .base-b .ensures))
+    (λ c. rw (c .before .enum-told9 .given .1) (c .base-b2 .ensures))
+    (λ c. rw (c .before .enum-told10 .given .1) (c .current-count .ensures))
+    (λ c. rw (c .before .enum-told11 .given .1) (c .base-count .ensures))
+    (λ c. rw (c .before .enum-told12 .given .1) (c .with-compare .ensures))
+    (λ c. rw (c .before .enum-told13 .given .1) (c .with-compare2 .ensures))
     (λ c. rw (c .enum-told14 .given .1))
-    (λ c. rw (c .before .enum-told15 .given .1) (c .load13 .ensures))
+    (λ c. rw (c .before .enum-told15 .given .1) (c .vector .ensures))
     (λ c. rw (c .enum-told16 .given .1))
-    (λ c. rw (c .before .enum-told17 .given .1) (c .load14 .ensures))
+    (λ c. rw (c .before .enum-told17 .given .1) (c .with-mode .ensures))
     (λ c. rw (c .before .enum-told18 .given .1) (c .write-chain .ensures))
     (λ c. rw (c .before .enum-told19 .given .1) (c .write-chain2 .ensures)))

@@ -1,12 +1,13 @@
 use borrow.Author.Needs.{needs}
+use Rattle.loading.specs.Loading.{loaded}
 use Rattle.writing.specs.Writing.{chainWritten}
 use Rattle.writing.proofs.write_chain.Statement.{statement}
 use Rattle.writing.proofs.write_chain.Tie as tie
 
 pub write-chain-spec : {M : Type 1} → statement M
-unfolding chainWritten
+unfolding chainWritten loaded
 write-chain-spec =
     tie.close
     (tie.spec
     (λ c κs. search needs)
-    (λ c. rw (c .before .load .ensures)))
+    (λ c. rw (c .before .with-chain .ensures)))
