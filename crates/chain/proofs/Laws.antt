@@ -7,9 +7,9 @@ use Rattle.reload.specs.declared.Entry.the-variants.{CurrentA, CurrentB, Curren
 use Rattle.reload.specs.Reload.{isPair, restOf}
 use Rattle.channel.specs.declared.Channel.{Channel}
 use Rattle.loading.specs.Loading.{loaded}
-use Rattle.chain.specs.declared.Progress.{Progress}
-use Rattle.chain.specs.declared.Next.{Next}
-use Rattle.chain.specs.declared.Next.the-variants.{More}
+use Rattle.reload.specs.declared.Progress.{Progress}
+use Rattle.reload.specs.declared.Next.{Next}
+use Rattle.reload.specs.declared.Next.the-variants.{More}
 use Rattle.chain.specs.declared.Loaded.{Loaded}
 use Rattle.chain.specs.Chaining.{advanced, nextOf, isChainAddress, loadFirstBy, loadLastBy, loadEntryBy, loadEntry, afterRegister}
 

@@ -10,11 +10,11 @@ use Rattle.reload.specs.Reload.{entryOf, restOf, isPair}
 use Rattle.channel.specs.declared.Channel.{Channel}
 use Rattle.channel.specs.Set.{_⟨chain≔_⟩, _⟨status≔_⟩, _⟨ca≔_⟩, _⟨nac≔_⟩, _⟨line≔_⟩, _⟨change≔_⟩, _⟨pending≔_⟩}
 use Rattle.loading.specs.Loading.{loaded}
-use Rattle.chain.specs.declared.Progress.{Progress}
-use Rattle.chain.specs.declared.Stage.{Stage}
-use Rattle.chain.specs.declared.Stage.the-variants.{Reload, Entries}
-use Rattle.chain.specs.declared.Next.{Next}
-use Rattle.chain.specs.declared.Next.the-variants.{More, Complete}
+use Rattle.reload.specs.declared.Progress.{Progress}
+use Rattle.reload.specs.declared.Stage.{Stage}
+use Rattle.reload.specs.declared.Stage.the-variants.{Reload, Entries}
+use Rattle.reload.specs.declared.Next.{Next}
+use Rattle.reload.specs.declared.Next.the-variants.{More, Complete}
 use Rattle.chain.specs.declared.Loaded.{Loaded}
 
 -- Each fetch adds 2.

@@ -4,25 +4,9 @@ ghost use Rattle.reload.specs.declared.Entry.the-variants.{ChainAddress};
 ghost use Rattle.chain.specs.Chaining.{isChainAddress, advanced, nextOf, loadReload, afterRegister, loadEntry, loadOf, settledBy, fetchedOf, droppedOf};
 use channel::Channel;
 use reload::Entry;
-
-// What is left of a chain's table, whether the second word of its next entry comes, and a new chain upper that waits for its lower.
-pub struct Progress {
-    pub left: u16,
-    pub second: bool,
-    pub upper: u16,
-}
-
-// The word of a chain that is fetched next.
-pub enum Stage {
-    Reload,
-    Entries(Progress),
-}
-
-// What follows a fetched word: more words, or the chain is complete.
-pub enum Next {
-    More(Progress),
-    Complete,
-}
+use reload::Next;
+use reload::Progress;
+use reload::Stage;
 
 pub struct Loaded {
     pub channel: Channel,

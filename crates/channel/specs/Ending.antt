@@ -13,7 +13,7 @@ use Rattle.mode.specs.Reasons.{some, enabledFor}
 use Rattle.status.specs.declared.Flags.{Flags}
 use Rattle.status.specs.Status.{saveWord}
 use Rattle.channel.specs.declared.Channel.{Channel}
-use Rattle.channel.specs.declared.Line.{Line}
+use Rattle.request.specs.declared.Line.{Line}
 use Rattle.unit.specs.declared.Moved.{Moved}
 use Rattle.channel.specs.declared.Ended.{Ended}
 use Rattle.channel.specs.Set.{_⟨current≔_⟩, _⟨mode≔_⟩, _⟨interrupt≔_⟩, _⟨status≔_⟩, _⟨line≔_⟩, _⟨ip≔_⟩, _⟨sip≔_⟩, _⟨save≔_⟩, _⟨nac≔_⟩, _⟨mch≔_⟩, _⟨mcl≔_⟩, _⟨why≔_⟩, _⟨change≔_⟩}

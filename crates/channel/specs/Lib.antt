@@ -1,5 +1,5 @@
 pub mod Set
-pub mod Request
+pub mod Candidate
 pub mod Ending
 pub mod EndingLaws
 pub mod Reset

@@ -5,7 +5,7 @@ use Rattle.tag.specs.declared.Address.{Address}
 use Rattle.channel.specs.declared.Channel.{Channel}
 use Rattle.channel.specs.declared.Ended.{Ended}
 use Rattle.channel.specs.declared.Interrupt.{Interrupt}
-use Rattle.channel.specs.declared.Line.{Line}
+use Rattle.request.specs.declared.Line.{Line}
 use Rattle.mode.specs.declared.Mode.{Mode}
 use Rattle.mode.specs.declared.Reasons.{Reasons}
 use Rattle.tag.specs.declared.Set.{Set}

@@ -1,13 +1,14 @@
 // A channel: its registers, its request and its end.
 ghost use mathlib.Core.Path.{_≡_};
 ghost use Rattle.mode.specs.Mode.{isRequested};
-ghost use Rattle.channel.specs.Request.{arrived, requests, isCandidate};
+ghost use Rattle.channel.specs.Candidate.{isCandidate};
 ghost use Rattle.channel.specs.Ending.{flagsOf, isTwo, saved, withIp, flagged, interrupted, finished, endOf, movedBy, spent, unended};
 ghost use Rattle.channel.specs.Reset.{resetChannel};
 use mode::Mode;
 use mode::Reasons;
 use mode::RequestMode;
 use port::Which;
+use request::Line;
 use status::Flags;
 use tag::Address;
 use tag::Set;
@@ -30,12 +31,6 @@ pub struct Status {
     pub why: Reasons,
 }
 
-// The request line: its level, and an inactive-to-active change that is stored and unspent.
-pub struct Line {
-    pub active: bool,
-    pub change: bool,
-}
-
 pub struct Channel {
     pub current: Set,
     pub base: Set,
@@ -55,23 +50,6 @@ pub struct Ended {
     pub chains: bool,
 }
 
-fn has_arrived(mode: RequestMode, line: Line) -> bool
-    ensures { λ r. ⌜ r ≡ arrived mode line ⌝ }
-{
-    match mode {
-        RequestMode::Single => line.change,
-        RequestMode::DemandHold => line.active,
-        RequestMode::DemandRelease => line.active,
-        RequestMode::DemandInterleave => line.active,
-    }
-}
-
-pub fn is_requesting(mode: Mode, line: Line) -> bool
-    ensures { λ r. ⌜ r ≡ requests mode line ⌝ }
-{
-    mode.is_requested() | (!mode.is_masked() & has_arrived(mode.request_mode(), line))
-}
-
 fn is_two(which: Which) -> bool
     ensures { λ r. ⌜ r ≡ isTwo which ⌝ }
 {
@@ -85,7 +63,7 @@ impl Channel {
     pub fn is_candidate(self) -> bool
         ensures { λ r. ⌜ r ≡ isCandidate self ⌝ }
     {
-        let requesting = is_requesting(self.mode, self.line);
+        let requesting = request::is_requesting(self.mode, self.line);
         self.pending | (requesting & ((!self.status.nac & !self.interrupt.sip) & !self.status.ca))
     }
 

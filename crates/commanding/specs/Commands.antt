@@ -16,7 +16,7 @@ use Rattle.controller.specs.declared.Controller.{Controller}
 use Rattle.controller.specs.Controller.{at, with, resetOf}
 use Rattle.commanding.specs.declared.Written.{Written}
 use Rattle.commanding.specs.declared.Writing.the-variants.{Refused, Taken}
-use Rattle.reading.specs.Reading.{isOther}
+use Rattle.port.specs.Ports.{isOther}
 
 abbrev pub refuses : ℕ → Controller → Written
 refuses n u = record { state = u; answer = Refused n }

@@ -93,7 +93,7 @@ pub fn take(u: Controller) -> Written
 fn set_interrupts(k: Which, set: bool, e: bool, p: bool, w: Which, u: Controller) -> Written
     ensures { λ r. ⌜ r ≡ carriedOut (Command.Interrupts k set e p) w u ⌝ }
 {
-    if p & reading::is_other(w, k) {
+    if p & port::is_other(w, k) {
         return refuse(4, u);
     }
     take(u.with_channel(k, with_ip(p, set, k, with_cie(e, set, u.channel(k)))))

@@ -3,10 +3,10 @@ use Rattle.space.specs.Space.{Spaces}
 use Rattle.controller.specs.declared.Controller.{Controller}
 use Rattle.controller.specs.Controller.{resetOf}
 use Rattle.controller.specs.Step.{stepOf}
-use Rattle.reading.specs.Reading.{pointed}
+use Rattle.pointer.specs.Pointer.{pointed}
 use Rattle.writing.specs.Writing.{writeOf}
 use Rattle.udc.specs.Lines.{linedAt}
-use Rattle.udc.specs.Acknowledge.{acknowledgeOf}
+use Rattle.acknowledging.specs.Acknowledge.{acknowledgeOf}
 use Rattle.running.specs.Run.{runOf}
 use Rattle.lines.specs.declared.Call.{Call}
 use Rattle.lines.specs.declared.Call.the-variants.{Reset, WritePointer, ReadPointer, Write, Read, Set, Get, Line, Acknowledge}

@@ -4,7 +4,7 @@ ghost use mathlib.Core.Path.{_≡_};
 ghost use Rattle.space.specs.Space.{spaces};
 ghost use Rattle.writing.specs.Writing.{writeOf};
 ghost use Rattle.udc.specs.Lines.{freshOf, linedAt};
-ghost use Rattle.udc.specs.Acknowledge.{acknowledgeOf};
+ghost use Rattle.acknowledging.specs.Acknowledge.{acknowledgeOf};
 ghost use Rattle.console.specs.Calls.{callOf, leaves, advanceOf};
 use crate::print;
 use controller::Controller;
@@ -75,7 +75,7 @@ fn show(s: &[u8], at: u32, n: u32) {
     while i < shown {
         let k = least(shown - i, 16);
         let start = from + i;
-        print::line(wording::row(start, &s[start..start + k]));
+        print::line(phrases::row(start, &s[start..start + k]));
         i += 16;
     }
 }
@@ -107,7 +107,7 @@ fn line(c: u8, active: bool, u: Controller) -> Controller
 fn acknowledge(u: Controller) -> Controller
     ensures { λ r. ⌜ r ≡ acknowledgeOf u .state ⌝ }
 {
-    let given = udc::acknowledge(u);
+    let given = acknowledging::acknowledge(u);
     let answer = given.answer;
     print::line(wording::acknowledge(answer));
     given.state
@@ -119,16 +119,16 @@ fn make(call: Call, u: Controller) -> Controller
 {
     match call {
         Call::Reset => {
-            print::line(wording::reset());
+            print::line(phrases::reset());
             u.reset()
         }
         Call::WritePointer(w) => {
-            let next = reading::write_pointer(u, w);
-            print::line(wording::pointer(next.pointer));
+            let next = pointer::write_pointer(u, w);
+            print::line(phrases::pointer(next.pointer));
             next
         }
         Call::ReadPointer => {
-            print::line(wording::pointer(u.pointer));
+            print::line(phrases::pointer(u.pointer));
             u
         }
         Call::Write(w) => write(w, u),
@@ -136,9 +136,9 @@ fn make(call: Call, u: Controller) -> Controller
             read(u);
             u
         }
-        Call::Set(p, w) => write(w, reading::write_pointer(u, p)),
+        Call::Set(p, w) => write(w, pointer::write_pointer(u, p)),
         Call::Get(p) => {
-            let next = reading::write_pointer(u, p);
+            let next = pointer::write_pointer(u, p);
             read(next);
             next
         }
@@ -171,8 +171,8 @@ fn go(advance: Advance, u: Controller, memory: &mut [u8], io: &mut [u8]) -> Cont
 
 fn poke(space: Space, at: u32, n: usize, bytes: &[u8; 64], memory: &mut [u8], io: &mut [u8]) {
     match space {
-        Space::Memory => print::line(wording::poked(store(memory, at as usize, n, bytes))),
-        Space::Io => print::line(wording::poked(store(io, at as usize, n, bytes))),
+        Space::Memory => print::line(phrases::poked(store(memory, at as usize, n, bytes))),
+        Space::Io => print::line(phrases::poked(store(io, at as usize, n, bytes))),
     }
 }
 
@@ -186,8 +186,8 @@ fn peek(space: Space, at: u32, n: u32, memory: &[u8], io: &[u8]) {
 // What is told of a line that makes no call and reaches no space.
 fn tell(request: Request, number: u64, u: Controller) {
     match request {
-        Request::Unreadable => print::line(wording::not_understood(number)),
-        Request::TooLarge => print::line(wording::too_large(number)),
+        Request::Unreadable => print::line(phrases::not_understood(number)),
+        Request::TooLarge => print::line(phrases::too_large(number)),
         Request::State => print::state(u),
         Request::Help => print::help(),
         _ => {}
@@ -222,7 +222,7 @@ fn serve(
 }
 
 fn lend(space: Space, n: u32, b: Bench, memory: &mut [u8], io: &mut [u8]) -> Bench {
-    print::line(wording::lent(space, n));
+    print::line(phrases::lent(space, n));
     match space {
         Space::Memory => {
             clear(n as usize, memory);

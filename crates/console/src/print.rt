@@ -34,7 +34,7 @@ pub fn state(u: Controller) {
 pub fn help() {
     let mut n: u8 = 0;
     while n < 16 {
-        line(wording::help(n));
+        line(phrases::help(n));
         n += 1;
     }
 }

@@ -3,15 +3,15 @@ use mathlib.Core.Bool.{Bool, true, false, _||_}
 use Rattle.port.specs.declared.Which.{Which}
 use Rattle.mode.specs.declared.RequestMode.{RequestMode}
 use Rattle.mode.specs.declared.RequestMode.the-variants.{Single, DemandHold, DemandRelease, DemandInterleave}
-use Rattle.chain.specs.declared.Stage.the-variants.{Reload, Entries}
-use Rattle.chain.specs.declared.Next.{Next}
-use Rattle.chain.specs.declared.Next.the-variants.{More, Complete}
+use Rattle.reload.specs.declared.Stage.the-variants.{Reload, Entries}
+use Rattle.reload.specs.declared.Next.{Next}
+use Rattle.reload.specs.declared.Next.the-variants.{More, Complete}
 use Rattle.control.specs.declared.Chain.{Chain}
 use Rattle.control.specs.declared.Chain.the-variants.{NoChain, Of}
 use Rattle.control.specs.declared.Bus.the-variants.{Free, Kept}
 use Rattle.control.specs.declared.Back.{Back}
 use Rattle.control.specs.declared.Back.the-variants.{Note, Bus}
-use Rattle.control.specs.declared.Served.the-variants.{Last}
+use Rattle.rules.specs.declared.Served.the-variants.{Last}
 use Rattle.control.specs.declared.Control.{Control}
 use Rattle.control.specs.Set.{_⟨chain≔_⟩, _⟨bus≔_⟩, _⟨note≔_⟩}
 

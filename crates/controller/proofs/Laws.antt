@@ -15,9 +15,10 @@ use Rattle.units.specs.declared.Carried.{Carried}
 use Rattle.units.specs.Units.{limitOf, carriedAs, onwards}
 use Rattle.channel.specs.declared.Channel.{Channel}
 use Rattle.channel.specs.declared.Ended.{Ended}
-use Rattle.channel.specs.Request.{requests, isCandidate}
+use Rattle.channel.specs.Candidate.{isCandidate}
+use Rattle.request.specs.Request.{requests}
 use Rattle.channel.specs.Ending.{reasonsOf, movedBy, unended, endOf, afterBy, afterUnit}
-use Rattle.chain.specs.declared.Stage.{Stage}
+use Rattle.reload.specs.declared.Stage.{Stage}
 use Rattle.chain.specs.Chaining.{droppedOf}
 use Rattle.fetches.specs.declared.Fetched.{Fetched}
 use Rattle.fetches.specs.Fetches.{fetchedAs, fetchesOf}
@@ -29,16 +30,16 @@ use Rattle.control.specs.declared.Control.{Control}
 use Rattle.controller.specs.declared.Controller.{Controller}
 use Rattle.controller.specs.declared.Stepped.{Stepped}
 use Rattle.controller.specs.declared.Answer.the-variants as answer
-use Rattle.control.specs.declared.Turn.{Turn}
-use Rattle.control.specs.declared.Turn.the-variants.{Nobodys, Whose}
-use Rattle.control.specs.declared.Choice.{Choice}
-use Rattle.control.specs.declared.Choice.the-variants.{Disabled, GiveBack, Unit, Idle}
+use Rattle.rules.specs.declared.Turn.{Turn}
+use Rattle.rules.specs.declared.Turn.the-variants.{Nobodys, Whose}
+use Rattle.rules.specs.declared.Choice.{Choice}
+use Rattle.rules.specs.declared.Choice.the-variants.{Disabled, GiveBack, Unit, Idle}
 use Rattle.controller.specs.Set.{_⟨control≔_⟩}
 use Rattle.control.specs.Set.{_⟨chain≔_⟩}
 use Rattle.controller.specs.Controller.{at, with}
-use Rattle.control.specs.Channels.{begins, interleaves, keeper}
+use Rattle.choosing.specs.Channels.{begins, interleaves, keeper}
 use Rattle.controller.specs.Choice.{candidateBy, candidate, choiceBy, choice}
-use Rattle.control.specs.Rules.{isEnabled, isInterleaved, fetchBy, turnBy}
+use Rattle.rules.specs.Rules.{isEnabled, isInterleaved, fetchBy, turnBy}
 use Rattle.controller.specs.Fetching.{fetchedBy, fetchOf}
 use Rattle.controller.specs.Step.{outcome, says, workOf, goneOn, endedAfter, unitOf, eopAlone, holdOf}
 use Rattle.controller.specs.Stride.{once, unitsBy, fetchesBy, strideBy}

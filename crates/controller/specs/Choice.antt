@@ -3,20 +3,20 @@
 use mathlib.Core.Bool.{Bool, true, false, _&&_}
 use Rattle.port.specs.declared.Which.{Which}
 use Rattle.tag.specs.Address.{isOdd}
-use Rattle.channel.specs.Request.{isCandidate}
-use Rattle.chain.specs.declared.Stage.{Stage}
+use Rattle.channel.specs.Candidate.{isCandidate}
+use Rattle.reload.specs.declared.Stage.{Stage}
 use Rattle.control.specs.declared.Chain.{Chain}
 use Rattle.control.specs.declared.Chain.the-variants.{NoChain, Of}
 use Rattle.control.specs.declared.Bus.{Bus}
 use Rattle.control.specs.declared.Bus.the-variants.{Free, Kept}
-use Rattle.control.specs.declared.Served.{Served}
+use Rattle.rules.specs.declared.Served.{Served}
 use Rattle.controller.specs.declared.Controller.{Controller}
-use Rattle.control.specs.declared.Choice.{Choice}
-use Rattle.control.specs.declared.Choice.the-variants.{Disabled, GiveBack, Idle}
-use Rattle.control.specs.declared.Turn.{Turn}
-use Rattle.control.specs.declared.Turn.the-variants.{Nobodys, Whose}
-use Rattle.control.specs.Rules.{isEnabled, fetchBy, turnBy}
-use Rattle.control.specs.Channels.{keeper, begins, interleaves}
+use Rattle.rules.specs.declared.Choice.{Choice}
+use Rattle.rules.specs.declared.Choice.the-variants.{Disabled, GiveBack, Idle}
+use Rattle.rules.specs.declared.Turn.{Turn}
+use Rattle.rules.specs.declared.Turn.the-variants.{Nobodys, Whose}
+use Rattle.rules.specs.Rules.{isEnabled, fetchBy, turnBy}
+use Rattle.choosing.specs.Channels.{keeper, begins, interleaves}
 use Rattle.controller.specs.Controller.{at}
 
 -- Rule 6. "Idle".

@@ -8,7 +8,7 @@ use Rattle.channel.specs.Reset.{resetChannel}
 use Rattle.control.specs.declared.Control.{Control}
 use Rattle.control.specs.declared.Chain.the-variants.{NoChain}
 use Rattle.control.specs.declared.Bus.the-variants.{Free}
-use Rattle.control.specs.declared.Served.the-variants.{Nobody}
+use Rattle.rules.specs.declared.Served.the-variants.{Nobody}
 use Rattle.controller.specs.declared.Controller.{Controller}
 use Rattle.controller.specs.Set.{_⟨one≔_⟩, _⟨two≔_⟩}
 

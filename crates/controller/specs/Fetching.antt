@@ -6,11 +6,11 @@ use Rattle.port.specs.declared.Which.{Which}
 use Rattle.space.specs.declared.Width.the-variants.{Word}
 use Rattle.space.specs.Space.{valueIn}
 use Rattle.tag.specs.Address.{number}
-use Rattle.chain.specs.declared.Stage.{Stage}
-use Rattle.chain.specs.declared.Next.{Next}
+use Rattle.reload.specs.declared.Stage.{Stage}
+use Rattle.reload.specs.declared.Next.{Next}
 use Rattle.chain.specs.declared.Loaded.{Loaded}
 use Rattle.chain.specs.Chaining.{fetchedOf, droppedOf}
-use Rattle.channel.specs.Request.{requests}
+use Rattle.request.specs.Request.{requests}
 use Rattle.control.specs.declared.Chain.the-variants.{NoChain}
 use Rattle.control.specs.declared.Control.{Control}
 use Rattle.controller.specs.declared.Controller.{Controller}
@@ -20,7 +20,7 @@ use Rattle.controller.specs.Set.{_⟨control≔_⟩}
 use Rattle.control.specs.Set.{_⟨chain≔_⟩}
 use Rattle.control.specs.After.{controlFetched}
 use Rattle.controller.specs.Controller.{at, with}
-use Rattle.control.specs.Rules.{isInterleaved}
+use Rattle.rules.specs.Rules.{isInterleaved}
 
 abbrev pub fetchedBy : Which → Loaded → Controller → Stepped
 fetchedBy w l u = record {

@@ -14,14 +14,14 @@ use Rattle.unit.specs.Unit.{worked}
 use Rattle.channel.specs.declared.Channel.{Channel}
 use Rattle.channel.specs.declared.Ended.{Ended}
 use Rattle.channel.specs.Ending.{reasonsOf, movedBy, unended, endOf, afterUnit}
-use Rattle.chain.specs.declared.Stage.{Stage}
+use Rattle.reload.specs.declared.Stage.{Stage}
 use Rattle.control.specs.declared.Chain.{Chain}
 use Rattle.control.specs.declared.Bus.the-variants.{Free}
 use Rattle.control.specs.declared.Control.{Control}
 use Rattle.controller.specs.declared.Controller.{Controller}
 use Rattle.controller.specs.declared.Stepped.{Stepped}
-use Rattle.control.specs.declared.Choice.{Choice}
-use Rattle.control.specs.declared.Choice.the-variants.{Disabled, Refused, Fetch, GiveBack, Unit, Hold, Release, Idle}
+use Rattle.rules.specs.declared.Choice.{Choice}
+use Rattle.rules.specs.declared.Choice.the-variants.{Disabled, Refused, Fetch, GiveBack, Unit, Hold, Release, Idle}
 use Rattle.control.specs.declared.Back.{Back}
 use Rattle.control.specs.declared.Back.the-variants.{Note, Bus}
 use Rattle.controller.specs.declared.Answer.{Answer}
@@ -30,7 +30,7 @@ use Rattle.controller.specs.Set.{_⟨control≔_⟩}
 use Rattle.control.specs.After.{chainAfter, unendedControl, endedControl, controlBy, backControl}
 use Rattle.controller.specs.Controller.{at, with}
 use Rattle.controller.specs.Choice.{choice}
-use Rattle.control.specs.Rules.{isInterleaved}
+use Rattle.rules.specs.Rules.{isInterleaved}
 use Rattle.controller.specs.Fetching.{fetchOf}
 
 -- All that a step leaves: the next state and the answer, and both spaces.

@@ -4,7 +4,7 @@ use mathlib.Core.Path.{_≡_, refl}
 use mathlib.Core.Bool.{Bool}
 use Rattle.space.specs.Space.{Spaces}
 use Rattle.controller.specs.declared.Controller.{Controller}
-use Rattle.control.specs.declared.Choice.the-variants.{Refused}
+use Rattle.rules.specs.declared.Choice.the-variants.{Refused}
 use Rattle.controller.specs.declared.Answer.the-variants as answer
 use Rattle.controller.specs.Step.{outcome, says, performOf}
 

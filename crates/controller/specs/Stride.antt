@@ -8,10 +8,10 @@ use Rattle.space.specs.Space.{Spaces}
 use Rattle.mode.specs.Mode.{requestModeOf}
 use Rattle.unit.specs.Unit.{Worked}
 use Rattle.units.specs.Units.{limitOf, onwards}
-use Rattle.chain.specs.declared.Stage.{Stage}
+use Rattle.reload.specs.declared.Stage.{Stage}
 use Rattle.fetches.specs.Fetches.{fetchesOf}
-use Rattle.control.specs.declared.Choice.{Choice}
-use Rattle.control.specs.declared.Choice.the-variants.{Disabled, Refused, Fetch, GiveBack, Unit, Hold, Release, Idle}
+use Rattle.rules.specs.declared.Choice.{Choice}
+use Rattle.rules.specs.declared.Choice.the-variants.{Disabled, Refused, Fetch, GiveBack, Unit, Hold, Release, Idle}
 use Rattle.controller.specs.declared.Controller.{Controller}
 use Rattle.controller.specs.declared.Stepped.{Stepped}
 use Rattle.controller.specs.declared.Strode.{Strode}

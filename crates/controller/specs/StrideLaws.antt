@@ -17,27 +17,28 @@ use Rattle.unit.specs.Unit.{unitRefusal}
 use Rattle.facts.specs.Rows.{inARow}
 use Rattle.units.specs.Units.{isDedicated, limitOf, onward, follows, onwards}
 use Rattle.channel.specs.declared.Channel.{Channel}
-use Rattle.channel.specs.Request.{requests, isCandidate}
+use Rattle.channel.specs.Candidate.{isCandidate}
+use Rattle.request.specs.Request.{requests}
 use Rattle.channel.specs.Ending.{reasonsOf, movedBy, unendedBy, unended, afterBy, afterUnit}
-use Rattle.chain.specs.declared.Stage.{Stage}
-use Rattle.chain.specs.declared.Stage.the-variants.{Reload, Entries}
-use Rattle.chain.specs.declared.Progress.{Progress}
-use Rattle.chain.specs.declared.Next.{Next}
-use Rattle.chain.specs.declared.Next.the-variants.{More, Complete}
+use Rattle.reload.specs.declared.Stage.{Stage}
+use Rattle.reload.specs.declared.Stage.the-variants.{Reload, Entries}
+use Rattle.reload.specs.declared.Progress.{Progress}
+use Rattle.reload.specs.declared.Next.{Next}
+use Rattle.reload.specs.declared.Next.the-variants.{More, Complete}
 use Rattle.chain.specs.declared.Loaded.{Loaded}
 use Rattle.control.specs.declared.Chain.{Chain}
 use Rattle.control.specs.declared.Chain.the-variants.{NoChain, Of}
 use Rattle.control.specs.declared.Bus.{Bus}
 use Rattle.control.specs.declared.Bus.the-variants.{Free, Kept}
-use Rattle.control.specs.declared.Served.{Served}
-use Rattle.control.specs.declared.Served.the-variants.{Nobody, Last}
+use Rattle.rules.specs.declared.Served.{Served}
+use Rattle.rules.specs.declared.Served.the-variants.{Nobody, Last}
 use Rattle.control.specs.declared.Control.{Control}
-use Rattle.control.specs.declared.Turn.{Turn}
-use Rattle.control.specs.declared.Turn.the-variants.{Nobodys, Whose}
-use Rattle.control.specs.declared.Choice.{Choice}
-use Rattle.control.specs.declared.Choice.the-variants.{Disabled, Refused, Fetch, GiveBack, Unit, Hold, Release, Idle}
-use Rattle.control.specs.Rules.{isEnabled, isInterleaved, fetchBy, unitBy, keeperBy, beginBy, turnBy}
-use Rattle.control.specs.Channels.{keeper, begins, interleaves}
+use Rattle.rules.specs.declared.Turn.{Turn}
+use Rattle.rules.specs.declared.Turn.the-variants.{Nobodys, Whose}
+use Rattle.rules.specs.declared.Choice.{Choice}
+use Rattle.rules.specs.declared.Choice.the-variants.{Disabled, Refused, Fetch, GiveBack, Unit, Hold, Release, Idle}
+use Rattle.rules.specs.Rules.{isEnabled, isInterleaved, fetchBy, unitBy, keeperBy, beginBy, turnBy}
+use Rattle.choosing.specs.Channels.{keeper, begins, interleaves}
 use Rattle.control.specs.Set.{_⟨chain≔_⟩}
 use Rattle.control.specs.After.{unendedControl, controlBy, controlFetched}
 use Rattle.controller.specs.declared.Controller.{Controller}

@@ -4,25 +4,25 @@ ghost use mathlib.Core.Bool.{true};
 ghost use Rattle.space.specs.Space.{spaces};
 ghost use Rattle.controller.specs.Set.{_⟨control≔_⟩};
 ghost use Rattle.controller.specs.Controller.{at, with, resetOf};
-ghost use Rattle.control.specs.Channels.{keeper, begins};
+ghost use Rattle.choosing.specs.Channels.{keeper, begins};
 ghost use Rattle.controller.specs.Choice.{candidate, choiceBy, choice};
 ghost use Rattle.mode.specs.Mode.{requestModeOf};
 ghost use Rattle.controller.specs.Step.{outcome, workOf, goneOn, endedAfter, unitOf, holdOf, backOf, stepOf};
 ghost use Rattle.controller.specs.Stride.{strode, once, fetchesBy, strideBy, strideOf};
-ghost use Rattle.control.specs.declared.Choice.the-variants as choice;
-use chain::Stage;
+ghost use Rattle.rules.specs.declared.Choice.the-variants as choice;
 use channel::Channel;
 use control::Back;
 use control::Bus;
 use control::Chain;
-use control::Choice;
 use control::Control;
-use control::Served;
-use control::Turn;
 use mode::Reasons;
 use mode::RequestMode;
 use moving::Compared;
 use port::Which;
+use reload::Stage;
+use rules::Choice;
+use rules::Served;
+use rules::Turn;
 use unit::Moved;
 use unit::Work;
 
@@ -134,18 +134,18 @@ impl Controller {
         ensures { λ r. ⌜ r ≡ begins w (at w self) ⌝ }
     {
         match w {
-            Which::One => control::begin_choice(Which::One, self.one),
-            Which::Two => control::begin_choice(Which::Two, self.two),
+            Which::One => choosing::begin_choice(Which::One, self.one),
+            Which::Two => choosing::begin_choice(Which::Two, self.two),
         }
     }
 
     fn candidate_choice(self) -> Choice
         ensures { λ r. ⌜ r ≡ candidate self ⌝ }
     {
-        let both = control::is_interleaving(self.one) & control::is_interleaving(self.two);
+        let both = choosing::is_interleaving(self.one) & choosing::is_interleaving(self.two);
         let control = self.control;
         let served = control.served;
-        let turn = control::whose_turn(
+        let turn = rules::whose_turn(
             self.one.is_candidate(),
             self.two.is_candidate(),
             both,
@@ -161,8 +161,8 @@ impl Controller {
         ensures { λ r. ⌜ r ≡ keeper w (at w self) ⌝ }
     {
         match w {
-            Which::One => control::keeper_choice(Which::One, self.one),
-            Which::Two => control::keeper_choice(Which::Two, self.two),
+            Which::One => choosing::keeper_choice(Which::One, self.one),
+            Which::Two => choosing::keeper_choice(Which::Two, self.two),
         }
     }
 
@@ -173,7 +173,7 @@ impl Controller {
         let control = self.control;
         let chain = control.chain;
         match chain {
-            Chain::Of(w, stage) => control::fetch_choice(stage, self.channel(w).chain.is_odd(), w),
+            Chain::Of(w, stage) => rules::fetch_choice(stage, self.channel(w).chain.is_odd(), w),
             Chain::NoChain => {
                 if control.note {
                     return Choice::GiveBack;
@@ -191,7 +191,7 @@ impl Controller {
     pub fn choose(self) -> Choice
         ensures { λ r. ⌜ r ≡ choice self ⌝ }
     {
-        if control::is_enabled(self.master) {
+        if rules::is_enabled(self.master) {
             return self.enabled_choice();
         }
         Choice::Disabled
@@ -221,10 +221,10 @@ impl Controller {
         let l = fetches::fetch_on(stage, left, c, memory);
         let d = l.channel;
         let next = l.next;
-        let active = channel::is_requesting(d.mode, d.line);
+        let active = request::is_requesting(d.mode, d.line);
         let after = control::control_fetched(
             next,
-            control::is_interleaved(self.master),
+            rules::is_interleaved(self.master),
             active,
             w,
             k,
@@ -260,7 +260,7 @@ impl Controller {
         ensures { λ r. ⌜ r ≡ goneOn w self m ⌝ }
     {
         let k = self.control;
-        let cpu = control::is_interleaved(self.master);
+        let cpu = rules::is_interleaved(self.master);
         let next = control::unended_control(self.request_mode(w), cpu, w, k);
         self.control = next;
         match w {

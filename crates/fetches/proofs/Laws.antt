@@ -9,11 +9,11 @@ use Rattle.space.specs.declared.Width.the-variants.{Word}
 use Rattle.space.specs.Space.{valueIn}
 use Rattle.tag.specs.Address.{number}
 use Rattle.channel.specs.declared.Channel.{Channel}
-use Rattle.chain.specs.declared.Progress.{Progress}
-use Rattle.chain.specs.declared.Stage.{Stage}
-use Rattle.chain.specs.declared.Stage.the-variants.{Entries}
-use Rattle.chain.specs.declared.Next.{Next}
-use Rattle.chain.specs.declared.Next.the-variants.{More, Complete}
+use Rattle.reload.specs.declared.Progress.{Progress}
+use Rattle.reload.specs.declared.Stage.{Stage}
+use Rattle.reload.specs.declared.Stage.the-variants.{Entries}
+use Rattle.reload.specs.declared.Next.{Next}
+use Rattle.reload.specs.declared.Next.the-variants.{More, Complete}
 use Rattle.chain.specs.declared.Loaded.{Loaded}
 use Rattle.chain.specs.Chaining.{fetchedOf}
 use Rattle.fetches.specs.Fetches.{goesOn, stageAfter, fetchTurns, fetchesOf}

@@ -2,9 +2,9 @@
 ghost use mathlib.Core.Path.{_≡_};
 ghost use Prim.Native.Nat.{_-_};
 ghost use Rattle.fetches.specs.Fetches.{fetchedAs, fetchesOf};
-use chain::Next;
-use chain::Stage;
 use channel::Channel;
+use reload::Next;
+use reload::Stage;
 use space::MemoryAddress;
 use space::Width;
 

@@ -8,12 +8,12 @@ use Rattle.controller.specs.declared.Controller.{Controller}
 use Rattle.controller.specs.Controller.{resetOf}
 use Rattle.controller.specs.Step.{Outcome, stepOf}
 use Rattle.commanding.specs.declared.Written.{Written}
-use Rattle.reading.specs.Reading.{pointed}
+use Rattle.pointer.specs.Pointer.{pointed}
 use Rattle.writing.specs.Writing.{writeOf}
 use Rattle.udc.specs.declared.Lined.{Lined}
-use Rattle.udc.specs.declared.Acknowledged.{Acknowledged}
+use Rattle.acknowledging.specs.declared.Acknowledged.{Acknowledged}
 use Rattle.udc.specs.Lines.{freshOf, linedAt}
-use Rattle.udc.specs.Acknowledge.{acknowledgeOf}
+use Rattle.acknowledging.specs.Acknowledge.{acknowledgeOf}
 use Rattle.running.specs.Run.{RunOutcome, runOf}
 use Rattle.words.specs.Words.{stateOf, wordsOf}
 use Rattle.numbers.specs.Numbers.{stepNumber, writeNumber, lineNumber, ackNumber}

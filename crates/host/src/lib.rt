@@ -28,7 +28,7 @@ pub extern "C" fn einflyga_write_pointer(state: &mut [u16; 72], pointer: u16)
 {
     let entry = *state;
     let u = words::load(entry);
-    *state = words::store(reading::write_pointer(u, pointer));
+    *state = words::store(pointer::write_pointer(u, pointer));
 }
 
 #[no_mangle]
@@ -36,7 +36,7 @@ pub extern "C" fn einflyga_read_pointer(state: &[u16; 72]) -> u16
     ensures { λ r. ⌜ r ≡ stateOf (now (state .entry)) .pointer ⌝ }
 {
     let entry = *state;
-    reading::read_pointer(words::load(entry))
+    pointer::read_pointer(words::load(entry))
 }
 
 #[no_mangle]
@@ -79,7 +79,7 @@ pub extern "C" fn einflyga_acknowledge(state: &mut [u16; 72]) -> u32
 {
     let entry = *state;
     let u = words::load(entry);
-    let acknowledged = udc::acknowledge(u);
+    let acknowledged = acknowledging::acknowledge(u);
     let next = acknowledged.state;
     let answer = acknowledged.answer;
     *state = words::store(next);

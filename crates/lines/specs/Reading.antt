@@ -12,45 +12,16 @@ use Rattle.lines.specs.declared.Request.{Request}
 use Rattle.lines.specs.declared.Request.the-variants as request
 use Rattle.lines.specs.declared.Input.{Input}
 use Rattle.lines.specs.declared.Input.the-variants.{Lend, Ask}
-use Rattle.lines.specs.declared.Name.{Name}
-use Rattle.lines.specs.declared.Name.the-variants as name
+use Rattle.naming.specs.declared.Name.{Name}
+use Rattle.naming.specs.declared.Name.the-variants as name
 use Rattle.lines.specs.declared.Named.{Named}
 use Rattle.lines.specs.declared.Named.the-variants.{In, Nowhere}
-use Rattle.lines.specs.declared.text.Base.the-variants.{Ten}
-use Rattle.lines.specs.declared.text.Number.{Number}
-use Rattle.lines.specs.declared.text.Number.the-variants as number
-use Rattle.lines.specs.Words.{bytes, codeOf, firstOf, restOf, sameOf}
-use Rattle.lines.specs.Numbers.{numberOf, hexOf, upTo255}
-
--- the first word of a line
-unfoldable pub named : List ℕ → List (List ℕ × Name) → Name
-named s [] = name.Unknown
-named s (e ∷ es) = cond (sameOf s (e .0)) (e .1) (named s es)
-
-abbrev pub benchNames : List (List ℕ × Name)
-benchNames =
-    (bytes "peek", name.Peek)
-    ∷ (bytes "state", name.State)
-    ∷ (bytes "help", name.Help)
-    ∷ []
-
-abbrev pub otherNames : List (List ℕ × Name)
-otherNames =
-    (bytes "line", name.Line)
-    ∷ (bytes "acknowledge", name.Acknowledge)
-    ∷ (bytes "step", name.Step)
-    ∷ (bytes "run", name.Run)
-    ∷ benchNames
-
-abbrev pub names : List (List ℕ × Name)
-names =
-    (bytes "reset", name.Reset)
-    ∷ (bytes "pointer", name.Pointer)
-    ∷ (bytes "write", name.Write)
-    ∷ (bytes "read", name.Read)
-    ∷ (bytes "set", name.Set)
-    ∷ (bytes "get", name.Get)
-    ∷ otherNames
+use Rattle.typing.specs.declared.Base.the-variants.{Ten}
+use Rattle.typing.specs.declared.Number.{Number}
+use Rattle.typing.specs.declared.Number.the-variants as number
+use Rattle.typing.specs.Words.{bytes, codeOf, firstOf, restOf, sameOf}
+use Rattle.typing.specs.Numbers.{numberOf, hexOf, upTo255}
+use Rattle.naming.specs.Names.{named, names}
 
 -- a line is read whole: nothing follows its last word
 unfoldable pub lastOf : List ℕ → Request → Request

@@ -1,11 +1,9 @@
 // What a line of the console asks for.
 ghost use mathlib.Core.Path.{_≡_};
 ghost use Prim.Native.Nat.{_%_};
-ghost use Rattle.lines.specs.Reading.{named, names, otherNames, benchNames, lastOf, pointerOf, writeOf, setOf, getOf, levelOf, lineOf, stepOf, runOf, limitOf, lendOf, spaceOf, peekOf, filled, bytesFrom, asked, pokeOf, askOf, taken, readOf};
-
-mod text;
-
-use text::Number;
+ghost use Rattle.lines.specs.Reading.{lastOf, pointerOf, writeOf, setOf, getOf, levelOf, lineOf, stepOf, runOf, limitOf, lendOf, spaceOf, peekOf, filled, bytesFrom, asked, pokeOf, askOf, taken, readOf};
+use naming::Name;
+use typing::Number;
 
 // The most bytes that are lent, and that are looked at.
 const MEMORY: u32 = 1048576;
@@ -56,81 +54,6 @@ pub enum Input {
     Ask(Request),
 }
 
-// The first word of a line.
-enum Name {
-    Reset,
-    Pointer,
-    Write,
-    Read,
-    Set,
-    Get,
-    Line,
-    Acknowledge,
-    Step,
-    Run,
-    Peek,
-    State,
-    Help,
-    Unknown,
-}
-
-fn name_of_port_call(s: &[u8]) -> Name
-    ensures { λ r. ⌜ r ≡ named (now (s .entry)) names ⌝ }
-{
-    if text::same(s, b"reset") {
-        return Name::Reset;
-    }
-    if text::same(s, b"pointer") {
-        return Name::Pointer;
-    }
-    if text::same(s, b"write") {
-        return Name::Write;
-    }
-    if text::same(s, b"read") {
-        return Name::Read;
-    }
-    if text::same(s, b"set") {
-        return Name::Set;
-    }
-    if text::same(s, b"get") {
-        return Name::Get;
-    }
-    name_of_other_call(s)
-}
-
-fn name_of_other_call(s: &[u8]) -> Name
-    ensures { λ r. ⌜ r ≡ named (now (s .entry)) otherNames ⌝ }
-{
-    if text::same(s, b"line") {
-        return Name::Line;
-    }
-    if text::same(s, b"acknowledge") {
-        return Name::Acknowledge;
-    }
-    if text::same(s, b"step") {
-        return Name::Step;
-    }
-    if text::same(s, b"run") {
-        return Name::Run;
-    }
-    name_at_the_bench(s)
-}
-
-fn name_at_the_bench(s: &[u8]) -> Name
-    ensures { λ r. ⌜ r ≡ named (now (s .entry)) benchNames ⌝ }
-{
-    if text::same(s, b"peek") {
-        return Name::Peek;
-    }
-    if text::same(s, b"state") {
-        return Name::State;
-    }
-    if text::same(s, b"help") {
-        return Name::Help;
-    }
-    Name::Unknown
-}
-
 fn low_word(n: u32) -> u16
     ensures { λ r. ⌜ r ≡ n % 65536 ⌝ }
 {
@@ -159,11 +82,11 @@ fn pointer(s: &[u8]) -> Request
     if s.len() == 0 {
         return Request::Make(Call::ReadPointer);
     }
-    let Number::Of(w) = text::word(text::first(s)) else {
+    let Number::Of(w) = typing::word(typing::first(s)) else {
         return Request::Unreadable;
     };
     last(
-        text::rest(s),
+        typing::rest(s),
         Request::Make(Call::WritePointer(low_word(w))),
     )
 }
@@ -171,24 +94,24 @@ fn pointer(s: &[u8]) -> Request
 fn write(s: &[u8]) -> Request
     ensures { λ r. ⌜ r ≡ writeOf (now (s .entry)) ⌝ }
 {
-    let Number::Of(w) = text::word(text::first(s)) else {
+    let Number::Of(w) = typing::word(typing::first(s)) else {
         return Request::Unreadable;
     };
-    last(text::rest(s), Request::Make(Call::Write(low_word(w))))
+    last(typing::rest(s), Request::Make(Call::Write(low_word(w))))
 }
 
 fn set(s: &[u8]) -> Request
     ensures { λ r. ⌜ r ≡ setOf (now (s .entry)) ⌝ }
 {
-    let Number::Of(p) = text::word(text::first(s)) else {
+    let Number::Of(p) = typing::word(typing::first(s)) else {
         return Request::Unreadable;
     };
-    let s = text::rest(s);
-    let Number::Of(w) = text::word(text::first(s)) else {
+    let s = typing::rest(s);
+    let Number::Of(w) = typing::word(typing::first(s)) else {
         return Request::Unreadable;
     };
     last(
-        text::rest(s),
+        typing::rest(s),
         Request::Make(Call::Set(low_word(p), low_word(w))),
     )
 }
@@ -196,21 +119,21 @@ fn set(s: &[u8]) -> Request
 fn get(s: &[u8]) -> Request
     ensures { λ r. ⌜ r ≡ getOf (now (s .entry)) ⌝ }
 {
-    let Number::Of(p) = text::word(text::first(s)) else {
+    let Number::Of(p) = typing::word(typing::first(s)) else {
         return Request::Unreadable;
     };
-    last(text::rest(s), Request::Make(Call::Get(low_word(p))))
+    last(typing::rest(s), Request::Make(Call::Get(low_word(p))))
 }
 
 fn line_level(c: u8, s: &[u8]) -> Request
     ensures { λ r. ⌜ r ≡ levelOf c (now (s .entry)) ⌝ }
 {
-    let level = text::first(s);
-    if text::same(level, b"active") {
-        return last(text::rest(s), Request::Make(Call::Line(c, true)));
+    let level = typing::first(s);
+    if typing::same(level, b"active") {
+        return last(typing::rest(s), Request::Make(Call::Line(c, true)));
     }
-    if text::same(level, b"inactive") {
-        return last(text::rest(s), Request::Make(Call::Line(c, false)));
+    if typing::same(level, b"inactive") {
+        return last(typing::rest(s), Request::Make(Call::Line(c, false)));
     }
     Request::Unreadable
 }
@@ -218,10 +141,10 @@ fn line_level(c: u8, s: &[u8]) -> Request
 fn line(s: &[u8]) -> Request
     ensures { λ r. ⌜ r ≡ lineOf (now (s .entry)) ⌝ }
 {
-    let Number::Of(c) = text::channel(text::first(s)) else {
+    let Number::Of(c) = typing::channel(typing::first(s)) else {
         return Request::Unreadable;
     };
-    line_level(low_byte(c), text::rest(s))
+    line_level(low_byte(c), typing::rest(s))
 }
 
 fn step(s: &[u8]) -> Request
@@ -230,8 +153,8 @@ fn step(s: &[u8]) -> Request
     if s.len() == 0 {
         return Request::Advance(Advance::Step(false));
     }
-    if text::same(text::first(s), b"eop") {
-        return last(text::rest(s), Request::Advance(Advance::Step(true)));
+    if typing::same(typing::first(s), b"eop") {
+        return last(typing::rest(s), Request::Advance(Advance::Step(true)));
     }
     Request::Unreadable
 }
@@ -239,10 +162,10 @@ fn step(s: &[u8]) -> Request
 fn run(s: &[u8]) -> Request
     ensures { λ r. ⌜ r ≡ runOf (now (s .entry)) ⌝ }
 {
-    let Number::Of(n) = text::decimal(text::first(s)) else {
+    let Number::Of(n) = typing::decimal(typing::first(s)) else {
         return Request::Unreadable;
     };
-    last(text::rest(s), Request::Advance(Advance::Run(n)))
+    last(typing::rest(s), Request::Advance(Advance::Run(n)))
 }
 
 fn limit(space: Space) -> u32
@@ -257,10 +180,10 @@ fn limit(space: Space) -> u32
 fn lend(space: Space, s: &[u8]) -> Input
     ensures { λ r. ⌜ r ≡ lendOf space (now (s .entry)) ⌝ }
 {
-    let Number::Of(n) = text::decimal(text::first(s)) else {
+    let Number::Of(n) = typing::decimal(typing::first(s)) else {
         return Input::Ask(Request::Unreadable);
     };
-    if text::rest(s).len() != 0 {
+    if typing::rest(s).len() != 0 {
         return Input::Ask(Request::Unreadable);
     }
     if limit(space) < n {
@@ -277,10 +200,10 @@ enum Named {
 fn space_named(s: &[u8]) -> Named
     ensures { λ r. ⌜ r ≡ spaceOf (now (s .entry)) ⌝ }
 {
-    if text::same(s, b"memory") {
+    if typing::same(s, b"memory") {
         return Named::In(Space::Memory);
     }
-    if text::same(s, b"io") {
+    if typing::same(s, b"io") {
         return Named::In(Space::Io);
     }
     Named::Nowhere
@@ -297,11 +220,11 @@ fn bytes_of(s: &[u8], bytes: &mut [u8; 64]) -> Number
             return Number::Unreadable;
         }
         let left = &s[at..];
-        let Number::Of(b) = text::byte(text::first(left)) else {
+        let Number::Of(b) = typing::byte(typing::first(left)) else {
             return Number::Unreadable;
         };
         bytes[n] = low_byte(b);
-        at += text::past_first(left);
+        at += typing::past_first(left);
         n += 1;
     }
     Number::Of(n as u32)
@@ -310,14 +233,14 @@ fn bytes_of(s: &[u8], bytes: &mut [u8; 64]) -> Number
 fn poke(s: &[u8], bytes: &mut [u8; 64]) -> Request
     ensures { λ r. ⌜ asked r (now (bytes .exit)) ≡ pokeOf (now (s .entry)) (now (bytes .entry)) ⌝ }
 {
-    let Named::In(space) = space_named(text::first(s)) else {
+    let Named::In(space) = space_named(typing::first(s)) else {
         return Request::Unreadable;
     };
-    let s = text::rest(s);
-    let Number::Of(at) = text::address(text::first(s)) else {
+    let s = typing::rest(s);
+    let Number::Of(at) = typing::address(typing::first(s)) else {
         return Request::Unreadable;
     };
-    let Number::Of(n) = bytes_of(text::rest(s), bytes) else {
+    let Number::Of(n) = bytes_of(typing::rest(s), bytes) else {
         return Request::Unreadable;
     };
     if n == 0 {
@@ -329,21 +252,21 @@ fn poke(s: &[u8], bytes: &mut [u8; 64]) -> Request
 fn peek(s: &[u8]) -> Request
     ensures { λ r. ⌜ r ≡ peekOf (now (s .entry)) ⌝ }
 {
-    let Named::In(space) = space_named(text::first(s)) else {
+    let Named::In(space) = space_named(typing::first(s)) else {
         return Request::Unreadable;
     };
-    let s = text::rest(s);
-    let Number::Of(at) = text::address(text::first(s)) else {
+    let s = typing::rest(s);
+    let Number::Of(at) = typing::address(typing::first(s)) else {
         return Request::Unreadable;
     };
-    let s = text::rest(s);
-    let Number::Of(n) = text::decimal(text::first(s)) else {
+    let s = typing::rest(s);
+    let Number::Of(n) = typing::decimal(typing::first(s)) else {
         return Request::Unreadable;
     };
     if PEEK < n {
-        return last(text::rest(s), Request::TooLarge);
+        return last(typing::rest(s), Request::TooLarge);
     }
-    last(text::rest(s), Request::Peek(space, at, n))
+    last(typing::rest(s), Request::Peek(space, at, n))
 }
 
 // What a line of a name asks, with the words that follow.
@@ -372,17 +295,17 @@ fn ask(name: Name, s: &[u8]) -> Request
 pub fn read_line(typed: &[u8], bytes: &mut [u8; 64]) -> Input
     ensures { λ r. ⌜ taken r (now (bytes .exit)) ≡ readOf (now (typed .entry)) (now (bytes .entry)) ⌝ }
 {
-    let s = text::code(typed);
+    let s = typing::code(typed);
     if s.len() == 0 {
         return Input::Ask(Request::Nothing);
     }
-    let word = text::first(s);
-    let args = text::rest(s);
+    let word = typing::first(s);
+    let args = typing::rest(s);
     if let Named::In(space) = space_named(word) {
         return lend(space, args);
     }
-    if text::same(word, b"poke") {
+    if typing::same(word, b"poke") {
         return Input::Ask(poke(args, bytes));
     }
-    Input::Ask(ask(name_of_port_call(word), args))
+    Input::Ask(ask(naming::name_of(word), args))
 }

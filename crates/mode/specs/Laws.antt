@@ -6,8 +6,8 @@ use Prim.Native.Nat.{ℕ, _/_, _%_, _<_}
 use native.Mathlib.Omega.{arith}
 use Rattle.facts.specs.Look.{look}
 use Rattle.mode.specs.declared.Mode.{Mode}
-use Rattle.mode.specs.declared.Operation.{Operation}
-use Rattle.mode.specs.declared.Operation.the-variants.{Illegal}
+use Rattle.operation.specs.declared.Operation.{Operation}
+use Rattle.operation.specs.declared.Operation.the-variants.{Illegal}
 use Rattle.mode.specs.declared.RequestMode.{RequestMode}
 use Rattle.mode.specs.declared.RequestMode.the-variants.{DemandInterleave}
 use Rattle.mode.specs.Mode.{operations, operationOf, requestModes, requestModeOf, isFlipped, matchControl, isMasked, isRequested, withFlip, withMask, withRequest}

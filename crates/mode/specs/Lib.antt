@@ -1,4 +1,3 @@
 pub mod Reasons
-pub mod Operation
 pub mod Mode
 pub mod Laws

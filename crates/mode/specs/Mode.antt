@@ -7,8 +7,8 @@ use Rattle.facts.specs.Look.{look}
 use Rattle.space.specs.declared.Width.the-variants.{Byte, Word}
 use Rattle.mode.specs.declared.Mode.{Mode}
 use Rattle.mode.specs.declared.Reasons.{Reasons}
-use Rattle.mode.specs.declared.Operation.{Operation}
-use Rattle.mode.specs.declared.Operation.the-variants.{Transfer, FunnelledTransfer, TransferAndSearch, FunnelledTransferAndSearch, Search, Flyby, Illegal}
+use Rattle.operation.specs.declared.Operation.{Operation}
+use Rattle.operation.specs.declared.Operation.the-variants.{Transfer, FunnelledTransfer, TransferAndSearch, FunnelledTransferAndSearch, Search, Flyby, Illegal}
 use Rattle.mode.specs.declared.RequestMode.{RequestMode}
 use Rattle.mode.specs.declared.RequestMode.the-variants.{Single, DemandHold, DemandRelease, DemandInterleave}
 use Rattle.mode.specs.Reasons.{triple}

@@ -13,8 +13,8 @@ use Rattle.reading.specs.declared.Reading.the-variants as reading
 use Rattle.commanding.specs.declared.Writing.{Writing}
 use Rattle.commanding.specs.Answers.{paperWrite}
 use Rattle.udc.specs.declared.LineAnswer.{LineAnswer}
-use Rattle.udc.specs.declared.AckAnswer.{AckAnswer}
-use Rattle.udc.specs.declared.AckAnswer.the-variants as ack
+use Rattle.acknowledging.specs.declared.AckAnswer.{AckAnswer}
+use Rattle.acknowledging.specs.declared.AckAnswer.the-variants as ack
 use Rattle.udc.specs.Answers.{paperLine}
 use Rattle.facts.specs.Bits.{bitIf}
 

@@ -2,13 +2,13 @@
 ghost use mathlib.Core.Path.{_≡_};
 ghost use Rattle.controller.specs.Answers.{channelNumber};
 ghost use Rattle.numbers.specs.Numbers.{unitHalf, wordKind, stepNumber, readNumber, writeNumber, lineNumber, ackNumber, packed};
+use acknowledging::AckAnswer;
 use commanding::Writing;
 use control::Back;
 use controller::Answer;
 use mode::Reasons;
 use port::Which;
 use reading::Reading;
-use udc::AckAnswer;
 use udc::LineAnswer;
 
 fn channel_number(w: Which) -> u8

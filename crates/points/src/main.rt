@@ -82,7 +82,7 @@ fn say(what: &[u8], right: bool) {
 }
 
 fn write_at(u: Controller, pointer: u16, w: u16) -> Written {
-    writing::write(w, reading::write_pointer(u, pointer))
+    writing::write(w, pointer::write_pointer(u, pointer))
 }
 
 fn state_after(u: Controller, pointer: u16, w: u16) -> Controller {
@@ -117,8 +117,8 @@ fn is_read_refused(u: Controller, n: u8) -> bool {
 
 // Pointer 00FFh reads 007Eh, and its register is refused by 1 in both directions.
 fn is_pointer_right() -> bool {
-    let u = reading::write_pointer(udc::fresh(), 0x00FF);
-    (reading::read_pointer(u) == 0x007E) & is_read_refused(u, 1) & is_write_refused(u, 0x00FF, 0, 1)
+    let u = pointer::write_pointer(udc::fresh(), 0x00FF);
+    (pointer::read_pointer(u) == 0x007E) & is_read_refused(u, 1) & is_write_refused(u, 0x00FF, 0, 1)
 }
 
 fn is_first(w: Which) -> bool {

@@ -1,7 +1,9 @@
 -- Document 01, "Registers": the ports, channel 1/channel 2, hexadecimal. Assumes nothing.
 use Prim.Native.Nat.{ℕ, _*_, _/_, _%_}
+use mathlib.Core.Bool.{Bool, true, false}
 use mathlib.Core.List.{List, [], _∷_}
 use Rattle.facts.specs.Look.{look}
+use Rattle.port.specs.declared.Which.{Which}
 use Rattle.port.specs.declared.Which.the-variants.{One, Two}
 use Rattle.port.specs.declared.Register.{Register}
 use Rattle.port.specs.declared.Register.the-variants.{CommandStatus, CurrentAUpper, CurrentALower, CurrentBUpper, CurrentBLower, BaseAUpper, BaseALower, BaseBUpper, BaseBLower, CurrentCount, BaseCount, Pattern, Mask, Save, Vector, ModeHigh, ModeLow, ChainUpper, ChainLower}
@@ -59,3 +61,10 @@ readPort pointer = look Nowhere pointer readable
 
 unfoldable pub writePort : ℕ → Port
 writePort pointer = look Nowhere pointer writable
+
+-- IP may be named at the other channel's port: refusal 4
+abbrev pub isOther : Which → Which → Bool
+isOther One One = false
+isOther One Two = true
+isOther Two One = true
+isOther Two Two = false

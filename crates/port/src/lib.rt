@@ -1,6 +1,6 @@
 // The ports: which register stands at the pointer, for reads and for writes.
 ghost use mathlib.Core.Path.{_≡_};
-ghost use Rattle.port.specs.Ports.{readPort, writePort, keptPointer};
+ghost use Rattle.port.specs.Ports.{readPort, writePort, keptPointer, isOther};
 
 // Which channel.
 pub enum Which {
@@ -133,5 +133,20 @@ pub fn write_port(pointer: u16) -> Port
         0x22 => Port::Of(Which::One, Register::ChainLower),
         0x20 => Port::Of(Which::Two, Register::ChainLower),
         _ => Port::Nowhere,
+    }
+}
+
+pub fn is_other(w: Which, k: Which) -> bool
+    ensures { λ r. ⌜ r ≡ isOther w k ⌝ }
+{
+    match w {
+        Which::One => match k {
+            Which::One => false,
+            Which::Two => true,
+        },
+        Which::Two => match k {
+            Which::One => true,
+            Which::Two => false,
+        },
     }
 }

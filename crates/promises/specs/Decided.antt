@@ -10,13 +10,13 @@ use Rattle.running.specs.declared.Ran.{Ran}
 use Rattle.running.specs.Run.{RunOutcome, ranAs}
 use Rattle.controller.proofs.Controller.reset.Reads as reset
 use Rattle.controller.proofs.Controller.step.Reads as step
-use Rattle.reading.proofs.read_pointer.Reads as pointer-read
-use Rattle.reading.proofs.write_pointer.Reads as pointer-write
+use Rattle.pointer.proofs.read_pointer.Reads as pointer-read
+use Rattle.pointer.proofs.write_pointer.Reads as pointer-write
 use Rattle.reading.proofs.read.Reads as register-read
 use Rattle.writing.proofs.write.Reads as register-write
 use Rattle.udc.proofs.fresh.Reads as fresh
 use Rattle.udc.proofs.line.Reads as line
-use Rattle.udc.proofs.acknowledge.Reads as acknowledge
+use Rattle.acknowledging.proofs.acknowledge.Reads as acknowledge
 use Rattle.running.proofs.run.Reads as run
 
 -- the argument, once: both are what the definition gives

@@ -21,47 +21,50 @@ use Rattle.mode.specs.declared.Mode.{Mode}
 use Rattle.mode.specs.declared.RequestMode.{RequestMode}
 use Rattle.mode.specs.declared.RequestMode.the-variants.{Single, DemandHold, DemandRelease, DemandInterleave}
 use Rattle.mode.specs.Mode.{operationOf, isFlipped, requestModeOf}
-use Rattle.mode.specs.Operation.{carried}
+use Rattle.operation.specs.Operation.{carried}
 use Rattle.tag.specs.declared.Set.{Set}
 use Rattle.tag.specs.Address.{isOdd}
 use Rattle.unit.specs.Unit.{oddWord, refusalOf, unitRefusal}
 use Rattle.channel.specs.declared.Channel.{Channel}
-use Rattle.channel.specs.Request.{requests, isCandidate}
-use Rattle.chain.specs.declared.Stage.{Stage}
-use Rattle.chain.specs.declared.Stage.the-variants.{Reload, Entries}
+use Rattle.channel.specs.Candidate.{isCandidate}
+use Rattle.request.specs.Request.{requests}
+use Rattle.reload.specs.declared.Stage.{Stage}
+use Rattle.reload.specs.declared.Stage.the-variants.{Reload, Entries}
 use Rattle.control.specs.declared.Chain.{Chain}
 use Rattle.control.specs.declared.Chain.the-variants.{NoChain}
 use Rattle.control.specs.declared.Chain.the-variants as chain
 use Rattle.control.specs.declared.Bus.{Bus}
 use Rattle.control.specs.declared.Bus.the-variants.{Free, Kept}
-use Rattle.control.specs.declared.Turn.{Turn}
-use Rattle.control.specs.declared.Turn.the-variants.{Nobodys, Whose}
+use Rattle.rules.specs.declared.Turn.{Turn}
+use Rattle.rules.specs.declared.Turn.the-variants.{Nobodys, Whose}
 use Rattle.controller.specs.declared.Controller.{Controller}
-use Rattle.control.specs.declared.Choice.{Choice}
-use Rattle.control.specs.declared.Choice.the-variants as chosen
+use Rattle.rules.specs.declared.Choice.{Choice}
+use Rattle.rules.specs.declared.Choice.the-variants as chosen
 use Rattle.controller.specs.declared.Answer.{Answer}
 use Rattle.controller.specs.declared.Answer.the-variants as answer
 use Rattle.controller.specs.Answers.{Paper, paper}
 use Rattle.controller.specs.Controller.{at}
 use Rattle.controller.specs.StepLaws.{refused-keeps}
-use Rattle.control.specs.Channels.{keeper, begins, interleaves}
+use Rattle.choosing.specs.Channels.{keeper, begins, interleaves}
 use Rattle.controller.specs.Choice.{candidateBy, candidate, choiceBy, choice}
-use Rattle.control.specs.Rules.{isEnabled, fetchBy, unitBy, keeperBy, beginBy, turnBy}
+use Rattle.rules.specs.Rules.{isEnabled, fetchBy, unitBy, keeperBy, beginBy, turnBy}
 use Rattle.controller.specs.Fetching.{fetchOf}
 use Rattle.controller.specs.Step.{Outcome, outcome, says, unitOf, holdOf, performOf, stepOf}
 use Rattle.reading.specs.declared.Reading.{Reading}
 use Rattle.commanding.specs.declared.Written.{Written}
-use Rattle.reading.specs.Reading.{readBy, readOf, isOther}
+use Rattle.reading.specs.Reading.{readBy, readOf}
+use Rattle.port.specs.Ports.{isOther}
 use Rattle.commanding.specs.Commands.{refuses, takes, isBusy, cannotChain, carriedOut, isReset, commandedBy, commanded}
 use Rattle.writing.specs.Writing.{isCommand, storedBy, masterBy, writeBy, writeOf}
 use Rattle.reading.specs.Answers.{PaperRead, paperRead}
 use Rattle.commanding.specs.Answers.{paperWrite}
 use Rattle.udc.specs.declared.Lined.{Lined}
-use Rattle.udc.specs.declared.Acknowledged.{Acknowledged}
+use Rattle.acknowledging.specs.declared.Acknowledged.{Acknowledged}
 use Rattle.udc.specs.Lines.{linedAt}
-use Rattle.udc.specs.Acknowledge.{interrupts, isVectorless, answered, acknowledgedAt, acknowledgeBy, acknowledgeOf}
+use Rattle.acknowledging.specs.Acknowledge.{interrupts, isVectorless, answered, acknowledgedAt, acknowledgeBy, acknowledgeOf}
 use Rattle.running.specs.Run.{RunOutcome}
-use Rattle.udc.specs.Answers.{paperLine, PaperAck, paperAck}
+use Rattle.udc.specs.Answers.{paperLine}
+use Rattle.acknowledging.specs.Answers.{PaperAck, paperAck}
 
 -- ---- refusals in order
 

@@ -23,8 +23,8 @@ use Rattle.mode.specs.declared.Mode.{Mode}
 use Rattle.mode.specs.declared.Reasons.{Reasons}
 use Rattle.mode.specs.declared.RequestMode.{RequestMode}
 use Rattle.mode.specs.declared.RequestMode.the-variants.{Single, DemandHold, DemandRelease, DemandInterleave}
-use Rattle.mode.specs.declared.Operation.{Operation}
-use Rattle.mode.specs.declared.Operation.the-variants.{Search}
+use Rattle.operation.specs.declared.Operation.{Operation}
+use Rattle.operation.specs.declared.Operation.the-variants.{Search}
 use Rattle.mode.specs.Mode.{operationOf, isFlipped, matchControl, requestModeOf, isRequested}
 use Rattle.mode.specs.Laws.{control-request}
 use Rattle.mode.specs.Reasons.{some}
@@ -35,12 +35,12 @@ use Rattle.channel.specs.EndingLaws.{ends-exactly}
 use Rattle.channel.specs.Ending.{movedBy, reasonsOf, spent, unendedBy, unended, afterBy, afterUnit}
 use Rattle.control.specs.declared.Chain.{Chain}
 use Rattle.control.specs.declared.Control.{Control}
-use Rattle.control.specs.declared.Choice.{Choice}
-use Rattle.control.specs.declared.Choice.the-variants as chosen
+use Rattle.rules.specs.declared.Choice.{Choice}
+use Rattle.rules.specs.declared.Choice.the-variants as chosen
 use Rattle.controller.specs.declared.Answer.{Answer}
 use Rattle.controller.specs.declared.Answer.the-variants as told
 use Rattle.controller.specs.Controller.{at, with}
-use Rattle.control.specs.Rules.{isInterleaved}
+use Rattle.rules.specs.Rules.{isInterleaved}
 use Rattle.controller.specs.Step.{workOf, unitOf, performOf, stepOf}
 use Rattle.control.specs.After.{controlBy}
 use Rattle.port.specs.declared.Which.{Which}

@@ -27,8 +27,8 @@ use Rattle.tag.specs.declared.Address.{Address}
 use Rattle.tag.specs.declared.Set.{Set}
 use Rattle.tag.specs.Address.{placeOf, steppedOn}
 use Rattle.tag.specs.Laws.{Words}
-use Rattle.mode.specs.declared.Operation.{Operation}
-use Rattle.mode.specs.declared.Operation.the-variants.{FunnelledTransfer}
+use Rattle.operation.specs.declared.Operation.{Operation}
+use Rattle.operation.specs.declared.Operation.the-variants.{FunnelledTransfer}
 use Rattle.mode.specs.Mode.{operationOf, isFlipped, requestModeOf}
 use Rattle.mode.specs.Reasons.{some}
 use Rattle.unit.specs.Unit.{bytes, readsOf, writesOf, datumOf, writtenOf, datumAt, compared, steppedSet, movedOf, worked}
@@ -36,9 +36,9 @@ use Rattle.channel.specs.declared.Channel.{Channel}
 use Rattle.channel.specs.EndingLaws.{ends-exactly}
 use Rattle.channel.specs.Ending.{reasonsOf, afterUnit}
 use Rattle.control.specs.declared.Control.{Control}
-use Rattle.control.specs.declared.Choice.{Choice}
-use Rattle.control.specs.declared.Choice.the-variants as chosen
-use Rattle.control.specs.Rules.{isInterleaved}
+use Rattle.rules.specs.declared.Choice.{Choice}
+use Rattle.rules.specs.declared.Choice.the-variants as chosen
+use Rattle.rules.specs.Rules.{isInterleaved}
 use Rattle.controller.specs.Step.{workOf, performOf}
 use Rattle.control.specs.After.{controlBy}
 use Rattle.port.specs.declared.Which.{Which}

@@ -21,28 +21,29 @@ use Rattle.mode.specs.Reasons.{some}
 use Rattle.unit.specs.declared.Moved.{Moved}
 use Rattle.unit.specs.Unit.{unitRefusal, worked}
 use Rattle.channel.specs.declared.Channel.{Channel}
-use Rattle.channel.specs.Request.{requests, isCandidate}
+use Rattle.channel.specs.Candidate.{isCandidate}
+use Rattle.request.specs.Request.{requests}
 use Rattle.channel.specs.Ending.{movedBy, reasonsOf, unended, unendedBy, afterBy, afterUnit}
 use Rattle.control.specs.declared.Chain.{Chain}
 use Rattle.control.specs.declared.Chain.the-variants.{NoChain}
 use Rattle.control.specs.declared.Bus.{Bus}
 use Rattle.control.specs.declared.Bus.the-variants.{Free}
-use Rattle.control.specs.declared.Served.{Served}
-use Rattle.control.specs.declared.Served.the-variants.{Nobody, Last}
+use Rattle.rules.specs.declared.Served.{Served}
+use Rattle.rules.specs.declared.Served.the-variants.{Nobody, Last}
 use Rattle.controller.specs.declared.Controller.{Controller}
-use Rattle.control.specs.declared.Choice.{Choice}
-use Rattle.control.specs.declared.Choice.the-variants as chosen
+use Rattle.rules.specs.declared.Choice.{Choice}
+use Rattle.rules.specs.declared.Choice.the-variants as chosen
 use Rattle.controller.specs.declared.Answer.{Answer}
 use Rattle.controller.specs.declared.Answer.the-variants as answer
 use Rattle.control.specs.declared.Control.{Control}
 use Rattle.control.specs.declared.Back.the-variants.{Note, Bus as TheBus}
 use Rattle.controller.specs.Answers.{none}
 use Rattle.controller.specs.Controller.{at, with}
-use Rattle.control.specs.declared.Turn.{Turn as Whoever}
-use Rattle.control.specs.Turns.{next-up, takes-turns}
-use Rattle.control.specs.Channels.{begins, interleaves}
+use Rattle.rules.specs.declared.Turn.{Turn as Whoever}
+use Rattle.rules.specs.Turns.{next-up, takes-turns}
+use Rattle.choosing.specs.Channels.{begins, interleaves}
 use Rattle.controller.specs.Choice.{candidateBy, candidate, choiceBy, choice}
-use Rattle.control.specs.Rules.{isEnabled, isInterleaved, unitBy, beginBy, turnBy, isInterleave}
+use Rattle.rules.specs.Rules.{isEnabled, isInterleaved, unitBy, beginBy, turnBy, isInterleave}
 use Rattle.controller.specs.Step.{Outcome, workOf, unitOf, performOf, stepOf}
 use Rattle.control.specs.After.{unendedControl, controlBy}
 use Rattle.promises.specs.Machine.{Machine, left, step, answer, next-choice, channel, unit, unit-channel, unit-spaces}

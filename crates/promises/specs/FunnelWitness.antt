@@ -22,14 +22,15 @@ use Rattle.mode.specs.Mode.{operationOf, requestModeOf}
 use Rattle.mode.specs.Reasons.{some}
 use Rattle.moving.specs.Comparison.{comparison}
 use Rattle.unit.specs.Unit.{oddWord, unitRefusal, datumAt, storedAt, compared, steppedSet, movedOf, worked}
-use Rattle.channel.specs.Request.{requests, isCandidate}
+use Rattle.channel.specs.Candidate.{isCandidate}
+use Rattle.request.specs.Request.{requests}
 use Rattle.channel.specs.Ending.{movedBy, unended, afterUnit}
 use Rattle.control.specs.declared.Chain.the-variants.{NoChain}
 use Rattle.control.specs.declared.Bus.the-variants.{Free}
-use Rattle.control.specs.declared.Served.the-variants.{Nobody}
+use Rattle.rules.specs.declared.Served.the-variants.{Nobody}
 use Rattle.controller.specs.declared.Controller.{Controller}
 use Rattle.controller.specs.Controller.{at, with}
-use Rattle.control.specs.Channels.{keeper, begins, interleaves}
+use Rattle.choosing.specs.Channels.{keeper, begins, interleaves}
 use Rattle.controller.specs.Choice.{candidate, choice}
 use Rattle.controller.specs.Step.{unitOf, performOf, stepOf}
 use Rattle.port.specs.declared.Which.the-variants.{One}

@@ -15,7 +15,7 @@ use Rattle.channel.specs.declared.Channel.{Channel}
 use Rattle.channel.specs.Ending.{afterUnit}
 use Rattle.controller.specs.declared.Controller.{Controller}
 use Rattle.controller.specs.declared.Answer.{Answer}
-use Rattle.control.specs.declared.Choice.{Choice}
+use Rattle.rules.specs.declared.Choice.{Choice}
 use Rattle.controller.specs.Controller.{at}
 use Rattle.controller.specs.Choice.{choice}
 use Rattle.controller.specs.Step.{Outcome, workOf, stepOf}

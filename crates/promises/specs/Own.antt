@@ -18,28 +18,29 @@ use Rattle.mode.specs.Reasons.{some}
 use Rattle.tag.specs.Address.{isOdd, number}
 use Rattle.unit.specs.Unit.{unitRefusal, worked}
 use Rattle.channel.specs.declared.Channel.{Channel}
-use Rattle.channel.specs.Request.{requests, isCandidate}
+use Rattle.channel.specs.Candidate.{isCandidate}
+use Rattle.request.specs.Request.{requests}
 use Rattle.channel.specs.Ending.{reasonsOf, afterUnit}
 use Rattle.chain.specs.Chaining.{fetchedOf}
-use Rattle.chain.specs.declared.Stage.{Stage}
-use Rattle.chain.specs.declared.Stage.the-variants.{Reload, Entries}
-use Rattle.chain.specs.declared.Next.{Next}
-use Rattle.chain.specs.declared.Next.the-variants.{More, Complete}
+use Rattle.reload.specs.declared.Stage.{Stage}
+use Rattle.reload.specs.declared.Stage.the-variants.{Reload, Entries}
+use Rattle.reload.specs.declared.Next.{Next}
+use Rattle.reload.specs.declared.Next.the-variants.{More, Complete}
 use Rattle.control.specs.declared.Chain.{Chain}
 use Rattle.control.specs.declared.Chain.the-variants.{NoChain, Of}
 use Rattle.control.specs.declared.Bus.{Bus}
 use Rattle.control.specs.declared.Bus.the-variants.{Free, Kept}
-use Rattle.control.specs.declared.Served.{Served}
-use Rattle.control.specs.declared.Turn.{Turn}
-use Rattle.control.specs.declared.Turn.the-variants.{Nobodys, Whose}
+use Rattle.rules.specs.declared.Served.{Served}
+use Rattle.rules.specs.declared.Turn.{Turn}
+use Rattle.rules.specs.declared.Turn.the-variants.{Nobodys, Whose}
 use Rattle.control.specs.declared.Control.{Control}
 use Rattle.controller.specs.declared.Controller.{Controller}
-use Rattle.control.specs.declared.Choice.{Choice}
-use Rattle.control.specs.declared.Choice.the-variants as chosen
+use Rattle.rules.specs.declared.Choice.{Choice}
+use Rattle.rules.specs.declared.Choice.the-variants as chosen
 use Rattle.controller.specs.Controller.{at, with}
-use Rattle.control.specs.Channels.{keeper, begins, interleaves}
+use Rattle.choosing.specs.Channels.{keeper, begins, interleaves}
 use Rattle.controller.specs.Choice.{candidateBy, candidate, choiceBy, choice}
-use Rattle.control.specs.Rules.{isEnabled, isInterleaved, fetchBy, unitBy, keeperBy, beginBy, turnBy}
+use Rattle.rules.specs.Rules.{isEnabled, isInterleaved, fetchBy, unitBy, keeperBy, beginBy, turnBy}
 use Rattle.controller.specs.Fetching.{fetchOf}
 use Rattle.control.specs.After.{controlFetched}
 use Rattle.controller.specs.Step.{workOf, unitOf, holdOf, performOf}

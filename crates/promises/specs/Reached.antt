@@ -4,7 +4,7 @@ use mathlib.Core.Bool.{Bool}
 use Prim.Native.Nat.{ℕ}
 use Rattle.space.specs.Space.{Spaces}
 use Rattle.port.specs.declared.Which.{Which}
-use Rattle.chain.specs.declared.Stage.{Stage}
+use Rattle.reload.specs.declared.Stage.{Stage}
 use Rattle.control.specs.declared.Chain.{Chain}
 use Rattle.control.specs.declared.Chain.the-variants.{NoChain, Of}
 use Rattle.control.specs.declared.Bus.{Bus}
@@ -12,11 +12,11 @@ use Rattle.control.specs.declared.Bus.the-variants.{Free, Kept}
 use Rattle.controller.specs.declared.Controller.{Controller}
 use Rattle.controller.specs.Controller.{at, resetOf}
 use Rattle.controller.specs.Step.{stepOf}
-use Rattle.control.specs.Rules.{isEnabled}
+use Rattle.rules.specs.Rules.{isEnabled}
 use Rattle.writing.specs.Writing.{writeOf}
-use Rattle.reading.specs.Reading.{pointed}
+use Rattle.pointer.specs.Pointer.{pointed}
 use Rattle.udc.specs.Lines.{noChannel, freshOf, linedAt}
-use Rattle.udc.specs.Acknowledge.{acknowledgeOf}
+use Rattle.acknowledging.specs.Acknowledge.{acknowledgeOf}
 use Rattle.running.specs.Run.{runOf}
 use Rattle.promises.specs.WellFormed.{Tidy, Owner, Keeper, Owned, WellFormed}
 use Rattle.promises.specs.WellChannel.{reset-sound}

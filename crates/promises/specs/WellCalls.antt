@@ -17,7 +17,7 @@ use Rattle.command.specs.Command.{commandOf}
 use Rattle.mode.specs.Mode.{withRequest, withMask, withFlip}
 use Rattle.channel.specs.declared.Channel.{Channel}
 use Rattle.channel.specs.Set.{_⟨mode≔_⟩}
-use Rattle.chain.specs.declared.Stage.{Stage}
+use Rattle.reload.specs.declared.Stage.{Stage}
 use Rattle.control.specs.declared.Chain.{Chain}
 use Rattle.control.specs.declared.Chain.the-variants.{NoChain, Of}
 use Rattle.control.specs.declared.Bus.{Bus}
@@ -26,13 +26,14 @@ use Rattle.control.specs.declared.Control.{Control}
 use Rattle.controller.specs.declared.Controller.{Controller}
 use Rattle.controller.specs.Controller.{at, with, resetOf}
 use Rattle.controller.specs.Set.{_⟨control≔_⟩, _⟨master≔_⟩}
-use Rattle.control.specs.Rules.{isEnabled}
+use Rattle.rules.specs.Rules.{isEnabled}
 use Rattle.commanding.specs.Commands.{cieBy, ipBy, chainStarted, cannotChain, refuses, takes, busyBy, isBusy, carriedOut, commandedBy, commanded}
 use Rattle.writing.specs.Writing.{registerWritten, isCommand, storedBy, masterBy, writeBy, writeOf}
-use Rattle.reading.specs.Reading.{isOther, pointed}
+use Rattle.pointer.specs.Pointer.{pointed}
+use Rattle.port.specs.Ports.{isOther}
 use Rattle.udc.specs.declared.LineAnswer.the-variants.{Refused}
 use Rattle.udc.specs.Lines.{lined, linedBy, linedAt}
-use Rattle.udc.specs.Acknowledge.{acknowledged, acknowledgedAt, acknowledgeBy, acknowledgeOf, interrupts}
+use Rattle.acknowledging.specs.Acknowledge.{acknowledged, acknowledgedAt, acknowledgeBy, acknowledgeOf, interrupts}
 use Rattle.promises.specs.WellFormed.{Clear, Software, Sound, TidyHalf, Owner, Keeper, Owned, WellFormed}
 use Rattle.promises.specs.WellChannel.{no, written-sound, requested-sound, masked-sound, flipped-sound, interrupts-sound, started-sound, reset-sound, lined-sound}
 use Rattle.promises.specs.WellEnding.{acknowledged-sound, acknowledged-same}

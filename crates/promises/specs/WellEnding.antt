@@ -15,31 +15,31 @@ use Rattle.tag.specs.Address.{steppedOn, fetchedOn}
 use Rattle.tag.specs.Laws.{kept-with, chain-chain, chain-with}
 use Rattle.mode.specs.declared.Mode.{Mode}
 use Rattle.mode.specs.declared.Reasons.{Reasons}
-use Rattle.mode.specs.declared.Operation.{Operation}
+use Rattle.operation.specs.declared.Operation.{Operation}
 use Rattle.mode.specs.declared.RequestMode.{RequestMode}
 use Rattle.mode.specs.declared.RequestMode.the-variants.{Single, DemandHold, DemandRelease, DemandInterleave}
 use Rattle.mode.specs.Mode.{operationOf, isFlipped, requestModeOf, isRequested, isMasked, interruptOf}
-use Rattle.mode.specs.Operation.{funnels, widthOfA, widthOfB}
+use Rattle.operation.specs.Operation.{funnels, widthOfA, widthOfB}
 use Rattle.mode.specs.Reasons.{enabledFor}
 use Rattle.reload.specs.declared.Entry.{Entry}
 use Rattle.reload.specs.Reload.{entryOf, restOf, isPair}
 use Rattle.unit.specs.declared.Moved.{Moved}
 use Rattle.unit.specs.Unit.{usesA, usesB, nextA, nextB, steppedSet, movedOf, worked}
 use Rattle.channel.specs.declared.Channel.{Channel}
-use Rattle.channel.specs.declared.Line.{Line}
+use Rattle.request.specs.declared.Line.{Line}
 use Rattle.channel.specs.declared.Ended.{Ended}
 use Rattle.channel.specs.Set.{_⟨interrupt≔_⟩, _⟨sip≔_⟩, _⟨pending≔_⟩, _⟨change≔_⟩}
-use Rattle.channel.specs.Request.{arrived, requests}
+use Rattle.request.specs.Request.{arrived, requests}
 use Rattle.channel.specs.Ending.{saved, withIp, flagged, interruptedBy, interrupted, reloads, chains, finished, waited, endOf, movedBy, spent, unendedBy}
-use Rattle.chain.specs.declared.Progress.{Progress}
-use Rattle.chain.specs.declared.Stage.{Stage}
-use Rattle.chain.specs.declared.Stage.the-variants.{Reload, Entries}
-use Rattle.chain.specs.declared.Next.{Next}
-use Rattle.chain.specs.declared.Next.the-variants.{More, Complete}
+use Rattle.reload.specs.declared.Progress.{Progress}
+use Rattle.reload.specs.declared.Stage.{Stage}
+use Rattle.reload.specs.declared.Stage.the-variants.{Reload, Entries}
+use Rattle.reload.specs.declared.Next.{Next}
+use Rattle.reload.specs.declared.Next.the-variants.{More, Complete}
 use Rattle.chain.specs.declared.Loaded.{Loaded}
 use Rattle.chain.specs.Chaining.{advanced, goesOn, nextOf, isChainAddress, loadReload, loadFirstBy, loadLastBy, loadEntryBy, loadEntry, loadOf, settledBy, fetchedOf, droppedOf}
 use Rattle.controller.specs.Step.{workOf}
-use Rattle.udc.specs.Acknowledge.{finishedLater, acknowledgedBy, acknowledged}
+use Rattle.acknowledging.specs.Acknowledge.{finishedLater, acknowledgedBy, acknowledged}
 use Rattle.running.specs.Run.{next}
 use Rattle.promises.specs.WellFormed.{TidyTag, TidySet, Tidy, TidyStage, SettledFlags, ClearFlags, Clear, Software, Sound}
 use Rattle.promises.specs.WellChannel.{no, settle, stopped, current-anew, chain-anew, mode-anew, loaded-tidy, loaded-flags, request-tidy}

@@ -13,15 +13,15 @@ use Rattle.mode.specs.declared.Mode.{Mode}
 use Rattle.mode.specs.declared.RequestMode.the-variants.{Single}
 use Rattle.mode.specs.Mode.{requestModeOf, isRequested, keptHigh}
 use Rattle.channel.specs.declared.Channel.{Channel}
-use Rattle.chain.specs.declared.Stage.{Stage}
-use Rattle.chain.specs.declared.Stage.the-variants.{Reload, Entries}
+use Rattle.reload.specs.declared.Stage.{Stage}
+use Rattle.reload.specs.declared.Stage.the-variants.{Reload, Entries}
 use Rattle.control.specs.declared.Chain.{Chain}
 use Rattle.control.specs.declared.Chain.the-variants.{NoChain, Of}
 use Rattle.control.specs.declared.Bus.{Bus}
 use Rattle.control.specs.declared.Bus.the-variants.{Free, Kept}
 use Rattle.controller.specs.declared.Controller.{Controller}
 use Rattle.controller.specs.Controller.{at}
-use Rattle.control.specs.Rules.{isEnabled}
+use Rattle.rules.specs.Rules.{isEnabled}
 
 -- ---- absent bits
 

@@ -19,34 +19,35 @@ use Rattle.unit.specs.Unit.{worked, unitRefusal}
 use Rattle.channel.specs.declared.Channel.{Channel}
 use Rattle.channel.specs.declared.Ended.{Ended}
 use Rattle.channel.specs.Set.{_⟨pending≔_⟩}
-use Rattle.channel.specs.Request.{requests, isCandidate}
+use Rattle.channel.specs.Candidate.{isCandidate}
+use Rattle.request.specs.Request.{requests}
 use Rattle.channel.specs.Ending.{endOf, movedBy, unendedBy, unended, reasonsOf, afterBy, afterUnit}
-use Rattle.chain.specs.declared.Stage.{Stage}
-use Rattle.chain.specs.declared.Stage.the-variants.{Reload, Entries}
-use Rattle.chain.specs.declared.Next.{Next}
-use Rattle.chain.specs.declared.Next.the-variants.{More, Complete}
+use Rattle.reload.specs.declared.Stage.{Stage}
+use Rattle.reload.specs.declared.Stage.the-variants.{Reload, Entries}
+use Rattle.reload.specs.declared.Next.{Next}
+use Rattle.reload.specs.declared.Next.the-variants.{More, Complete}
 use Rattle.chain.specs.Chaining.{fetchedOf, droppedOf}
 use Rattle.control.specs.declared.Chain.{Chain}
 use Rattle.control.specs.declared.Chain.the-variants.{NoChain, Of}
 use Rattle.control.specs.declared.Bus.{Bus}
 use Rattle.control.specs.declared.Bus.the-variants.{Free, Kept}
-use Rattle.control.specs.declared.Served.{Served}
-use Rattle.control.specs.declared.Served.the-variants as served
-use Rattle.control.specs.declared.Turn.{Turn}
-use Rattle.control.specs.declared.Turn.the-variants.{Nobodys, Whose}
+use Rattle.rules.specs.declared.Served.{Served}
+use Rattle.rules.specs.declared.Served.the-variants as served
+use Rattle.rules.specs.declared.Turn.{Turn}
+use Rattle.rules.specs.declared.Turn.the-variants.{Nobodys, Whose}
 use Rattle.control.specs.declared.Control.{Control}
 use Rattle.controller.specs.declared.Controller.{Controller}
-use Rattle.control.specs.declared.Choice.{Choice}
-use Rattle.control.specs.declared.Choice.the-variants as chosen
+use Rattle.rules.specs.declared.Choice.{Choice}
+use Rattle.rules.specs.declared.Choice.the-variants as chosen
 use Rattle.controller.specs.declared.Answer.the-variants as answer
 use Rattle.controller.specs.Controller.{at, with}
 use Rattle.controller.specs.Step.{workOf, Outcome, outcome, says, unitOf, eopAlone, holdOf, performOf, stepOf}
 use Rattle.control.specs.After.{chainAfter, unendedControl, controlBy}
 use Rattle.controller.specs.Set.{_⟨control≔_⟩}
 use Rattle.control.specs.Set.{_⟨chain≔_⟩, _⟨bus≔_⟩, _⟨note≔_⟩}
-use Rattle.control.specs.Channels.{keeper, begins, interleaves}
+use Rattle.choosing.specs.Channels.{keeper, begins, interleaves}
 use Rattle.controller.specs.Choice.{candidateBy, candidate, choiceBy, choice}
-use Rattle.control.specs.Rules.{isEnabled, isInterleaved, fetchBy, unitBy, keeperBy, beginBy, turnBy}
+use Rattle.rules.specs.Rules.{isEnabled, isInterleaved, fetchBy, unitBy, keeperBy, beginBy, turnBy}
 use Rattle.controller.specs.Fetching.{fetchOf}
 use Rattle.control.specs.After.{controlFetched}
 use Rattle.running.specs.Run.{stops, next, advanced, runFrom, runOf}

@@ -1,30 +1,22 @@
--- Document 01, "Registers": the pointer, and what is read at it. Assumes nothing.
+-- Document 01, "Registers": what is read at the pointer. Assumes nothing.
 use Prim.Native.Nat.{ℕ}
 use mathlib.Core.Bool.{Bool, true, false, not, _&&_}
 use Rattle.port.specs.declared.Which.{Which}
-use Rattle.port.specs.declared.Which.the-variants.{One, Two}
 use Rattle.port.specs.declared.Register.{Register}
 use Rattle.port.specs.declared.Register.the-variants.{CommandStatus, CurrentAUpper, CurrentALower, CurrentBUpper, CurrentBLower, BaseAUpper, BaseALower, BaseBUpper, BaseBLower, CurrentCount, BaseCount, Pattern, Mask, Save, Vector, ModeHigh, ModeLow, ChainUpper, ChainLower}
 use Rattle.port.specs.declared.Port.{Port}
 use Rattle.port.specs.declared.Port.the-variants.{MasterMode, Of, Nowhere}
-use Rattle.port.specs.Ports.{keptPointer, readPort}
+use Rattle.port.specs.Ports.{isOther, readPort}
 use Rattle.status.specs.Status.{statusWord}
 use Rattle.channel.specs.declared.Channel.{Channel}
-use Rattle.channel.specs.Request.{isCandidate}
+use Rattle.channel.specs.Candidate.{isCandidate}
 use Rattle.channel.specs.Ending.{flagsOf}
 use Rattle.control.specs.declared.Bus.{Bus}
 use Rattle.control.specs.declared.Bus.the-variants.{Free, Kept}
 use Rattle.controller.specs.declared.Controller.{Controller}
 use Rattle.controller.specs.Controller.{at}
-use Rattle.controller.specs.Set.{_⟨pointer≔_⟩}
 use Rattle.reading.specs.declared.Reading.{Reading}
 use Rattle.reading.specs.declared.Reading.the-variants.{Refused, Value}
-
-abbrev pub isOther : Which → Which → Bool
-isOther One One = false
-isOther One Two = true
-isOther Two One = true
-isOther Two Two = false
 
 -- WFB is being a candidate that doesn't keep the bus.
 abbrev pub keepsBus : Which → Bus → Bool
@@ -63,7 +55,3 @@ readBy Nowhere u = Refused 1
 
 unfoldable pub readOf : Controller → Reading
 readOf u = readBy (readPort (u .pointer)) u
-
--- The pointer keeps bits 1 to 6 of the word written.
-abbrev pub pointed : ℕ → Controller → Controller
-pointed w u = u ⟨pointer≔ keptPointer w ⟩

@@ -1,6 +1,6 @@
-// The pointer, and what is read at it.
+// What is read at the pointer.
 ghost use mathlib.Core.Path.{_≡_};
-ghost use Rattle.reading.specs.Reading.{isOther, keepsBus, waitsForBus, registerRead, readOf, pointed};
+ghost use Rattle.reading.specs.Reading.{keepsBus, waitsForBus, registerRead, readOf};
 use channel::Channel;
 use control::Bus;
 use controller::Controller;
@@ -13,27 +13,12 @@ pub enum Reading {
     Value(u16),
 }
 
-pub fn is_other(w: Which, k: Which) -> bool
-    ensures { λ r. ⌜ r ≡ isOther w k ⌝ }
-{
-    match w {
-        Which::One => match k {
-            Which::One => false,
-            Which::Two => true,
-        },
-        Which::Two => match k {
-            Which::One => true,
-            Which::Two => false,
-        },
-    }
-}
-
 fn keeps_bus(w: Which, bus: Bus) -> bool
     ensures { λ r. ⌜ r ≡ keepsBus w bus ⌝ }
 {
     match bus {
         Bus::Free => false,
-        Bus::Kept(k) => !is_other(w, k),
+        Bus::Kept(k) => !port::is_other(w, k),
     }
 }
 
@@ -81,18 +66,4 @@ pub fn read(u: Controller) -> Reading
         Port::Of(w, r) => Reading::Value(register_read(r, waits_for_bus(w, u), u.channel(w))),
         Port::Nowhere => Reading::Refused(1),
     }
-}
-
-pub fn read_pointer(u: Controller) -> u16
-    ensures { λ r. ⌜ r ≡ u .pointer ⌝ }
-{
-    u.pointer
-}
-
-pub fn write_pointer(mut u: Controller, w: u16) -> Controller
-    ensures { λ r. ⌜ r ≡ pointed w u ⌝ }
-{
-    let kept = port::kept_pointer(w);
-    u.pointer = kept;
-    u
 }

@@ -16,6 +16,25 @@ pub enum Entry {
     Nothing,
 }
 
+// What is left of a chain's table, whether the second word of its next entry comes, and a new chain upper that waits for its lower.
+pub struct Progress {
+    pub left: u16,
+    pub second: bool,
+    pub upper: u16,
+}
+
+// The word of a chain that is fetched next.
+pub enum Stage {
+    Reload,
+    Entries(Progress),
+}
+
+// What follows a fetched word: more words, or the chain is complete.
+pub enum Next {
+    More(Progress),
+    Complete,
+}
+
 // The place of the next entry, 0 for that of bit 9 to 9 for that of bit 0; 10 where none is left.
 fn next_place(left: u16) -> u32
     ensures { λ r. ⌜ r ≡ nextOf left ⌝ }

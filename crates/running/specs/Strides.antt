@@ -14,13 +14,13 @@ use Rattle.unit.specs.declared.Moved.{Moved}
 use Rattle.unit.specs.Unit.{Worked, worked}
 use Rattle.units.specs.Units.{isDedicated, onward, follows, At as UnitAt, unitTurns, onwards}
 use Rattle.channel.specs.declared.Channel.{Channel}
-use Rattle.chain.specs.declared.Stage.{Stage}
-use Rattle.chain.specs.declared.Next.{Next}
-use Rattle.chain.specs.declared.Next.the-variants.{More, Complete}
+use Rattle.reload.specs.declared.Stage.{Stage}
+use Rattle.reload.specs.declared.Next.{Next}
+use Rattle.reload.specs.declared.Next.the-variants.{More, Complete}
 use Rattle.chain.specs.declared.Loaded.{Loaded}
 use Rattle.fetches.specs.Fetches.{goesOn, stageAfter, At as FetchAt, fetchTurns}
-use Rattle.control.specs.declared.Choice.{Choice}
-use Rattle.control.specs.declared.Choice.the-variants.{Disabled, Refused, Fetch, GiveBack, Unit, Hold, Release, Idle}
+use Rattle.rules.specs.declared.Choice.{Choice}
+use Rattle.rules.specs.declared.Choice.the-variants.{Disabled, Refused, Fetch, GiveBack, Unit, Hold, Release, Idle}
 use Rattle.controller.specs.declared.Controller.{Controller}
 use Rattle.controller.specs.declared.Stepped.{Stepped}
 use Rattle.controller.specs.declared.Answer.{Answer}

@@ -8,18 +8,18 @@ use Rattle.tag.specs.declared.Set.{Set}
 use Rattle.status.specs.Status.{statusWord}
 use Rattle.reload.specs.Reload.{wordsOf}
 use Rattle.channel.specs.Ending.{flagsOf}
-use Rattle.chain.specs.declared.Stage.{Stage}
-use Rattle.chain.specs.declared.Stage.the-variants.{Reload, Entries}
+use Rattle.reload.specs.declared.Stage.{Stage}
+use Rattle.reload.specs.declared.Stage.the-variants.{Reload, Entries}
 use Rattle.control.specs.declared.Bus.{Bus}
 use Rattle.control.specs.declared.Bus.the-variants.{Free, Kept}
 use Rattle.control.specs.declared.Chain.{Chain}
 use Rattle.control.specs.declared.Chain.the-variants.{NoChain, Of}
-use Rattle.control.specs.declared.Served.{Served}
-use Rattle.control.specs.declared.Served.the-variants.{Nobody, Last}
+use Rattle.rules.specs.declared.Served.{Served}
+use Rattle.rules.specs.declared.Served.the-variants.{Nobody, Last}
 use Rattle.controller.specs.declared.Controller.{Controller}
 use Rattle.controller.specs.Controller.{at}
 use Rattle.reading.specs.Reading.{waitsForBus}
-use Rattle.lines.specs.Words.{bytes}
+use Rattle.typing.specs.Words.{bytes}
 use Rattle.text.specs.Text.{_⧺_, hex2Of, hex4Of, decimalOf, bitOf, channelOf}
 
 -- `served` and `bus`: 0 or a channel

@@ -1,19 +1,18 @@
-// The host's other calls: a fresh controller, the request lines, and the interrupt acknowledge.
+// A fresh controller, and its request lines.
 ghost use mathlib.Core.Path.{_≡_};
 ghost use Rattle.udc.specs.Lines.{noRegister, noSet, noChannel, freshOf, lined, linedBy, linedAt};
-ghost use Rattle.udc.specs.Acknowledge.{interrupts, finishedLater, acknowledged, isVectorless, acknowledgedAt, acknowledgeOf};
 use channel::Channel;
 use channel::Interrupt;
-use channel::Line;
 use channel::Status;
 use control::Bus;
 use control::Chain;
 use control::Control;
-use control::Served;
 use controller::Controller;
 use mode::Mode;
 use mode::Reasons;
 use port::Which;
+use request::Line;
+use rules::Served;
 use tag::Address;
 use tag::Set;
 
@@ -25,17 +24,6 @@ pub enum LineAnswer {
 pub struct Lined {
     pub state: Controller,
     pub answer: LineAnswer,
-}
-
-pub enum AckAnswer {
-    Refused(u8),
-    Word(Which, u16),
-    NoWord(Which),
-}
-
-pub struct Acknowledged {
-    pub state: Controller,
-    pub answer: AckAnswer,
 }
 
 // ---- a fresh controller
@@ -142,75 +130,5 @@ pub fn line(number: u8, active: bool, u: Controller) -> Lined
             state: u,
             answer: LineAnswer::Refused(10),
         },
-    }
-}
-
-// ---- the interrupt acknowledge
-
-fn is_interrupting(c: Channel) -> bool
-    ensures { λ r. ⌜ r ≡ interrupts c ⌝ }
-{
-    c.interrupt.cie & (c.interrupt.ip | c.interrupt.sip)
-}
-
-// The end that waited is finished; its chain is left pending.
-fn finish_later(c: Channel) -> Channel
-    ensures { λ r. ⌜ r ≡ finishedLater c ⌝ }
-{
-    let why = c.status.why;
-    let chains = c.mode.chains().enables(why);
-    let mut next = c.finish(why);
-    let pending = next.pending | chains;
-    next.pending = pending;
-    next
-}
-
-fn acknowledge_channel(w: Which, c: Channel) -> Channel
-    ensures { λ r. ⌜ r ≡ acknowledged w c ⌝ }
-{
-    if c.interrupt.sip {
-        let mut next = c;
-        next.interrupt.sip = false;
-        return finish_later(next.with_ip(w));
-    }
-    c
-}
-
-fn is_vectorless(master: u16) -> bool
-    ensures { λ r. ⌜ r ≡ isVectorless master ⌝ }
-{
-    (master >> 3) & 1 == 1
-}
-
-// The save word is answered as it stood before the call.
-fn acknowledge_at(w: Which, u: Controller) -> Acknowledged
-    ensures { λ r. ⌜ r ≡ acknowledgedAt w u ⌝ }
-{
-    let c = u.channel(w);
-    let next = u.with_channel(w, acknowledge_channel(w, c));
-    if is_vectorless(u.master) {
-        return Acknowledged {
-            state: next,
-            answer: AckAnswer::NoWord(w),
-        };
-    }
-    Acknowledged {
-        state: next,
-        answer: AckAnswer::Word(w, c.interrupt.save),
-    }
-}
-
-pub fn acknowledge(u: Controller) -> Acknowledged
-    ensures { λ r. ⌜ r ≡ acknowledgeOf u ⌝ }
-{
-    if is_interrupting(u.one) {
-        return acknowledge_at(Which::One, u);
-    }
-    if is_interrupting(u.two) {
-        return acknowledge_at(Which::Two, u);
-    }
-    Acknowledged {
-        state: u,
-        answer: AckAnswer::Refused(9),
     }
 }

@@ -17,9 +17,9 @@ use Rattle.tag.specs.declared.Address.{Address}
 use Rattle.tag.specs.declared.Set.{Set}
 use Rattle.tag.specs.Address.{placeOf, steppedOn, isOdd, orderOf}
 use Rattle.mode.specs.declared.Mode.{Mode}
-use Rattle.mode.specs.declared.Operation.{Operation}
+use Rattle.operation.specs.declared.Operation.{Operation}
 use Rattle.mode.specs.Mode.{operationOf, isFlipped, matchControl}
-use Rattle.mode.specs.Operation.{carried, compares, searches, funnels, widthOfA, widthOfB}
+use Rattle.operation.specs.Operation.{carried, compares, searches, funnels, widthOfA, widthOfB}
 use Rattle.unit.specs.declared.Moved.{Moved}
 use Rattle.unit.specs.declared.Work.{Work}
 

@@ -6,15 +6,15 @@ use mathlib.Core.Bool.{Bool, true, false}
 use mathlib.Core.List.{List, [], _∷_}
 use Rattle.facts.specs.Look.{look}
 use Rattle.port.specs.declared.Which.the-variants.{One, Two}
-use Rattle.chain.specs.declared.Progress.{Progress}
-use Rattle.chain.specs.declared.Stage.the-variants.{Reload, Entries}
+use Rattle.reload.specs.declared.Progress.{Progress}
+use Rattle.reload.specs.declared.Stage.the-variants.{Reload, Entries}
 use Rattle.channel.specs.declared.Channel.{Channel}
 use Rattle.control.specs.declared.Chain.{Chain}
 use Rattle.control.specs.declared.Chain.the-variants.{NoChain, Of}
 use Rattle.control.specs.declared.Bus.{Bus}
 use Rattle.control.specs.declared.Bus.the-variants.{Free, Kept}
-use Rattle.control.specs.declared.Served.{Served}
-use Rattle.control.specs.declared.Served.the-variants.{Nobody, Last}
+use Rattle.rules.specs.declared.Served.{Served}
+use Rattle.rules.specs.declared.Served.the-variants.{Nobody, Last}
 use Rattle.controller.specs.declared.Controller.{Controller}
 use Rattle.words.specs.Words.{bit, flag, chainWord, stageWord, progressOf, busWord, servedWord, channelWords, wordsOf, stageOf, chainOf, busOf, servedOf, channelAt, progressAt, stateOf}
 

@@ -7,16 +7,16 @@ use lib.ListN.{getD}
 use Rattle.facts.specs.Look.{look}
 use Rattle.port.specs.declared.Which.{Which}
 use Rattle.port.specs.declared.Which.the-variants.{One, Two}
-use Rattle.chain.specs.declared.Progress.{Progress}
-use Rattle.chain.specs.declared.Stage.{Stage}
-use Rattle.chain.specs.declared.Stage.the-variants.{Reload, Entries}
+use Rattle.reload.specs.declared.Progress.{Progress}
+use Rattle.reload.specs.declared.Stage.{Stage}
+use Rattle.reload.specs.declared.Stage.the-variants.{Reload, Entries}
 use Rattle.channel.specs.declared.Channel.{Channel}
 use Rattle.control.specs.declared.Chain.{Chain}
 use Rattle.control.specs.declared.Chain.the-variants.{NoChain, Of}
 use Rattle.control.specs.declared.Bus.{Bus}
 use Rattle.control.specs.declared.Bus.the-variants.{Free, Kept}
-use Rattle.control.specs.declared.Served.{Served}
-use Rattle.control.specs.declared.Served.the-variants.{Nobody, Last}
+use Rattle.rules.specs.declared.Served.{Served}
+use Rattle.rules.specs.declared.Served.the-variants.{Nobody, Last}
 use Rattle.controller.specs.declared.Controller.{Controller}
 use Rattle.controller.specs.Answers.{channelNumber}
 

@@ -2,20 +2,20 @@
 ghost use mathlib.Core.Path.{_≡_};
 ghost use Rattle.controller.specs.Answers.{channelNumber};
 ghost use Rattle.words.specs.Words.{chainWord, stageWord, progressOf, busWord, servedWord, wordsOf, stageOf, chainOf, busOf, servedOf, channelAt, stateOf};
-use chain::Progress;
-use chain::Stage;
 use channel::Channel;
 use channel::Interrupt;
-use channel::Line;
 use channel::Status;
 use control::Bus;
 use control::Chain;
 use control::Control;
-use control::Served;
 use controller::Controller;
 use mode::Mode;
 use mode::Reasons;
 use port::Which;
+use reload::Progress;
+use reload::Stage;
+use request::Line;
+use rules::Served;
 use tag::Address;
 use tag::Set;
 

@@ -5,9 +5,9 @@ use native.Mathlib.Omega.{arith}
 use lib.ListN.{length, drop}
 use lib.Seq.{drop-drop}
 use denote.Ref.{now}
-use Rattle.lines.specs.declared.text.Number.the-variants.{Unreadable}
-use Rattle.lines.specs.Words.{firstOf, restOf}
-use Rattle.lines.specs.Numbers.{hexOf}
+use Rattle.typing.specs.declared.Number.the-variants.{Unreadable}
+use Rattle.typing.specs.Words.{firstOf, restOf}
+use Rattle.typing.specs.Numbers.{hexOf}
 use Rattle.lines.specs.Reading.{bytesFrom}
 use Rattle.facts.specs.Lists.{all-left, some-left, none-left}
 use Rattle.lines.specs.Laws.{fill-none, fill-full, fill-bad, fill-on}

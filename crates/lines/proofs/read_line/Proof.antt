@@ -24,4 +24,4 @@ read-line-spec =
     (λ c. rw (← c .before .before .before .before .before .before .before .before .before .before .before .code .ensures, ne-eqb _ _ (c .before .before .before .before .before .before .before .before .before .before .if1 .left), ← c .before .before .before .before .before .before .before .before .rest .ensures, ← c .before .before .before .before .before .before .before .before .before .first .ensures, ← c .before .before .before .before .before .before .before .space-named .ensures, c .before .before .before .before .before .enum-told .given .1, ← c .before .before .before .same .ensures, c .before .before .if2 .taken, ← c .poke .ensures))
     (λ c κs. search needs)
     (λ c κs. search needs)
-    (λ c. rw (← c .before .before .before .before .before .before .before .before .before .before .before .code .ensures, ne-eqb _ _ (c .before .before .before .before .before .before .before .before .before .before .if1 .left), ← c .before .before .before .before .before .before .before .before .rest .ensures, ← c .before .before .before .before .before .before .before .before .before .first .ensures, ← c .before .before .before .before .before .before .before .space-named .ensures, c .before .before .before .before .before .enum-told .given .1, ← c .before .before .before .same .ensures, c .before .before .if2 .left, ← c .before .name-of-port-call .ensures, ← c .ask .ensures)))
+    (λ c. rw (← c .before .before .before .before .before .before .before .before .before .before .before .code .ensures, ne-eqb _ _ (c .before .before .before .before .before .before .before .before .before .before .if1 .left), ← c .before .before .before .before .before .before .before .before .rest .ensures, ← c .before .before .before .before .before .before .before .before .before .first .ensures, ← c .before .before .before .before .before .before .before .space-named .ensures, c .before .before .before .before .before .enum-told .given .1, ← c .before .before .before .same .ensures, c .before .before .if2 .left, ← c .before .name-of .ensures, ← c .ask .ensures)))

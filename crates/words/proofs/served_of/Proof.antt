@@ -2,7 +2,7 @@ use Rattle.facts.specs.Look.{look}
 use Rattle.facts.specs.Look.{look-none}
 use Rattle.words.specs.Words.{servedOf}
 use Rattle.port.specs.declared.Which.the-variants.{One, Two}
-use Rattle.control.specs.declared.Served.the-variants.{Last}
+use Rattle.rules.specs.declared.Served.the-variants.{Last}
 use mathlib.Core.List.{[], _∷_}
 use Rattle.words.proofs.served_of.Statement.{statement}
 use Rattle.words.proofs.served_of.Tie as tie

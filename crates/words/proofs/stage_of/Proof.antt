@@ -1,7 +1,7 @@
 use Rattle.facts.specs.Look.{look}
 use Rattle.facts.specs.Look.{look-none}
 use Rattle.words.specs.Words.{stageOf}
-use Rattle.chain.specs.declared.Stage.the-variants.{Entries}
+use Rattle.reload.specs.declared.Stage.the-variants.{Entries}
 use mathlib.Core.List.{[], _∷_}
 use Rattle.words.proofs.stage_of.Statement.{statement}
 use Rattle.words.proofs.stage_of.Tie as tie

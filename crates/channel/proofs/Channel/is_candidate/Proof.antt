@@ -1,5 +1,5 @@
 use borrow.Author.Needs.{needs}
-use Rattle.channel.specs.Request.{isCandidate}
+use Rattle.channel.specs.Candidate.{isCandidate}
 use Rattle.channel.proofs.Channel.is_candidate.Statement.{statement}
 use Rattle.channel.proofs.Channel.is_candidate.Tie as tie
 

@@ -3,7 +3,7 @@ use Rattle.facts.specs.Look.{look}
 use Rattle.facts.specs.Look.{look-none}
 use Rattle.mode.specs.Mode.{operationOf}
 use Rattle.mode.specs.Mode.{operations}
-use Rattle.mode.specs.declared.Operation.the-variants.{Illegal}
+use Rattle.operation.specs.declared.Operation.the-variants.{Illegal}
 use Rattle.mode.proofs.Mode.operation.Statement.{statement}
 use Rattle.mode.proofs.Mode.operation.Tie as tie
 

@@ -1,0 +1,28 @@
+use borrow.Author.Needs.{needs}
+use Rattle.accesses.proofs.access.Statement.{statement}
+use Rattle.accesses.proofs.access.Tie as tie
+
+pub access-spec : {M : Type 1} → statement M
+access-spec =
+    tie.close
+    (tie.spec
+    (λ c κs. search needs)
+    (λ c κs. search needs)
+    (λ c κs. search needs)
+    (λ c κs. search needs)
+    (λ c κs. search needs)
+    (λ c κs. search needs)
+    (λ c κs. search needs)
+    (λ c κs. search needs)
+    (λ c. search needs)
+    (λ c. search needs)
+    (λ c. rw (← c .before .before .before .before .before .before .before .before .before .is-funnelling .ensures, c .before .before .before .before .before .before .before .before .if1 .taken, c .before .before .before .before .before .before .before .if2 .taken) (c .before .before .before .before .word-to-bytes .ensures))
+    (λ c. search needs)
+    (λ c. search needs)
+    (λ c. rw (← c .before .before .before .before .before .before .before .before .before .is-funnelling .ensures, c .before .before .before .before .before .before .before .before .if1 .taken, c .before .before .before .before .before .before .before .if2 .left) (c .before .before .before .before .bytes-to-word .ensures))
+    (λ c. search needs)
+    (λ c. search needs)
+    (λ c. rw (← c .before .before .before .before .before .before .before .is-funnelling .ensures, c .before .before .before .before .before .before .if1 .left, ← c .before .before .before .before .before .is-searching .ensures, c .before .before .before .before .if3 .taken, ← c .before .before .before .width-of-a .ensures, c .search-source .ensures))
+    (λ c. search needs)
+    (λ c. search needs)
+    (λ c. rw (← c .before .before .before .before .before .before .before .before .before .before .before .is-funnelling .ensures, c .before .before .before .before .before .before .before .before .before .before .if1 .left, ← c .before .before .before .before .before .before .before .before .before .is-searching .ensures, c .before .before .before .before .before .before .before .before .if3 .left, ← c .before .before .before .before .before .before .before .width-of-a2 .ensures) (c .before .before .before .before .transfer .ensures)))

@@ -1,0 +1,18 @@
+// The pointer: reads and writes of it.
+ghost use mathlib.Core.Path.{_≡_};
+ghost use Rattle.pointer.specs.Pointer.{pointed};
+use controller::Controller;
+
+pub fn read_pointer(u: Controller) -> u16
+    ensures { λ r. ⌜ r ≡ u .pointer ⌝ }
+{
+    u.pointer
+}
+
+pub fn write_pointer(mut u: Controller, w: u16) -> Controller
+    ensures { λ r. ⌜ r ≡ pointed w u ⌝ }
+{
+    let kept = port::kept_pointer(w);
+    u.pointer = kept;
+    u
+}

@@ -1,0 +1,11 @@
+use Rattle.typing.specs.Words.{isBlank}
+use mathlib.Core.Path.{refl}
+use Rattle.typing.proofs.is_blank.Statement.{statement}
+use Rattle.typing.proofs.is_blank.Tie as tie
+
+pub is-blank-spec : {M : Type 1} → statement M
+unfolding isBlank
+is-blank-spec =
+    tie.close
+    (tie.spec
+    (λ c. refl))
