@@ -184,7 +184,7 @@ impl Channel {
     }
 
     // What the unit made of the current registers and of MCH and MCL.
-    fn with_moved(mut self, m: Moved) -> Channel
+    pub fn with_moved(mut self, m: Moved) -> Channel
         ensures { λ r. ⌜ r ≡ movedBy m self ⌝ }
     {
         let set = m.set;

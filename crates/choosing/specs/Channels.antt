@@ -6,6 +6,7 @@ use Rattle.mode.specs.Mode.{requestModeOf}
 use Rattle.tag.specs.Address.{isOdd}
 use Rattle.unit.specs.Unit.{unitRefusal}
 use Rattle.channel.specs.declared.Channel.{Channel}
+use Rattle.channel.specs.Candidate.{isCandidate}
 use Rattle.request.specs.Request.{requests}
 use Rattle.rules.specs.declared.Choice.{Choice}
 use Rattle.rules.specs.Rules.{keeperBy, beginBy, isInterleave}
@@ -19,3 +20,7 @@ begins w c = beginBy (c .pending) (isOdd (c .chain)) (unitRefusal (c .mode) (c .
 -- a unit in demand interleave, if it is a candidate
 unfoldable pub interleaves : Channel → Bool
 interleaves c = not (c .pending) && isInterleave (requestModeOf (c .mode))
+
+-- a unit in demand interleave is what it would do now
+abbrev pub isInTurn : Channel → Bool
+isInTurn c = interleaves c && isCandidate c

@@ -1,6 +1,6 @@
 // What a channel's own registers choose: for the one that keeps the bus, and for a candidate.
 ghost use mathlib.Core.Path.{_≡_};
-ghost use Rattle.choosing.specs.Channels.{keeper, begins, interleaves};
+ghost use Rattle.choosing.specs.Channels.{keeper, begins, interleaves, isInTurn};
 use channel::Channel;
 use mode::RequestMode;
 use port::Which;
@@ -37,4 +37,11 @@ pub fn is_interleaving(c: Channel) -> bool
     ensures { λ r. ⌜ r ≡ interleaves c ⌝ }
 {
     !c.pending & rules::is_interleave(c.mode.request_mode())
+}
+
+// Whether a unit in demand interleave is what it would do now.
+pub fn is_in_turn(c: Channel) -> bool
+    ensures { λ r. ⌜ r ≡ isInTurn c ⌝ }
+{
+    is_interleaving(c) & c.is_candidate()
 }

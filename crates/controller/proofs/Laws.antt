@@ -1,6 +1,6 @@
 -- The rules as laws: what a callee answered, and what the branch on it found, give the definition's case.
 use mathlib.Core.Path.{_≡_, refl, sym, ap, _∙_}
-use mathlib.Core.Bool.{Bool, true, false, _&&_}
+use mathlib.Core.Bool.{Bool, true, false, cond, _&&_}
 use Prim.Native.Nat.{ℕ, _-_}
 use mathlib.Core.List.{List}
 use Rattle.space.specs.Space.{Spaces}
@@ -9,10 +9,11 @@ use Rattle.mode.specs.declared.RequestMode.{RequestMode}
 use Rattle.mode.specs.Mode.{requestModeOf}
 use Rattle.mode.specs.Reasons.{some}
 use Rattle.tag.specs.Address.{isOdd}
-use Rattle.unit.specs.declared.Work.{Work}
 use Rattle.unit.specs.declared.Moved.{Moved}
+use Rattle.units.specs.declared.Pair.{Pair}
 use Rattle.units.specs.declared.Carried.{Carried}
-use Rattle.units.specs.Units.{limitOf, carriedAs, onwards}
+use Rattle.units.specs.Units.{limitOf, carriedAs, onwards, of-one}
+use Rattle.port.specs.Ports.{other}
 use Rattle.channel.specs.declared.Channel.{Channel}
 use Rattle.channel.specs.declared.Ended.{Ended}
 use Rattle.channel.specs.Candidate.{isCandidate}
@@ -42,7 +43,8 @@ use Rattle.controller.specs.Choice.{candidateBy, candidate, choiceBy, ch
 use Rattle.rules.specs.Rules.{isEnabled, isInterleaved, fetchBy, turnBy}
 use Rattle.controller.specs.Fetching.{fetchedBy, fetchOf}
 use Rattle.controller.specs.Step.{outcome, says, workOf, goneOn, endedAfter, unitOf, eopAlone, holdOf}
-use Rattle.controller.specs.Stride.{once, unitsBy, fetchesBy, strideBy}
+use Rattle.controller.specs.Stride.{once, takeTurns, pairOf, rested, unitsBy, fetchesBy, strideBy}
+use Rattle.controller.specs.StrideLaws.{unrested}
 use Rattle.control.specs.After.{chainAfter, unendedControl, controlBy, controlFetched}
 
 -- ---- a candidate
@@ -142,11 +144,22 @@ module _ (w : Which) (eop : Bool) (u : Controller) (m : Moved) (s : Controller) 
   unfolding endedAfter settled
   settles-ended h es = ap (λ (x : Controller). says x (answer.Unit w (reasonsOf m eop))) es ∙ is-settled true h
 
-pub does-units : (w : Which) (left : ℕ) (eop : Bool) (u : Controller) (r : RequestMode) (limit : ℕ) (k : Work) (x : Carried) (z z′ : Spaces) (s : Stepped)
-    → r ≡ requestModeOf (at w u .mode) → limit ≡ limitOf r left eop → k ≡ workOf (at w u) → carriedAs x z′ ≡ onwards (limit - 1) 0 k z → s ≡ unitOf w eop u (x .moved)
+-- alone, the other channel rests as it is
+rests-alone : (both : Bool) (n : ℕ) (w : Which) (u : Controller) (x : Carried) (z z′ : Spaces) → carriedAs x z′ ≡ onwards both n 0 (pairOf w u) z
+    → cond both (rested (other (x .which)) (x .rests) u) u ≡ rested (other (x .which)) (x .rests) u
+rests-alone true n w u x z z′ e = refl
+rests-alone false n w u x z z′ e =
+    let d = e ∙ of-one w (workOf (at (other w) u)) n 0 (workOf (at w u)) z in
+    sym ((λ i. rested (other (d i .last .which)) (d i .last .rests) u) ∙ unrested (other w) u)
+
+pub does-units : (w : Which) (left : ℕ) (eop : Bool) (u : Controller) (both : Bool) (r : RequestMode) (limit : ℕ) (p : Pair) (x : Carried) (z z′ : Spaces) (y : Controller) (s : Stepped)
+    → both ≡ takeTurns u → r ≡ requestModeOf (at w u .mode) → limit ≡ limitOf both r left eop → p ≡ pairOf w u → carriedAs x z′ ≡ onwards both (limit - 1) 0 p z
+    → y ≡ cond both (rested (other (x .which)) (x .rests) u) u → s ≡ unitOf (x .which) eop y (x .moved)
     → record { last = outcome s z′; steps = x .units } ≡ strideBy (Unit w) left eop u z
 unfolding strideBy
-does-units w left eop u r limit k x z z′ s er el ek e es =
-    let most : limit ≡ limitOf (requestModeOf (at w u .mode)) left eop = el ∙ ap (λ (y : RequestMode). limitOf y left eop) er in
-    let f : carriedAs x z′ ≡ onwards (limitOf (requestModeOf (at w u .mode)) left eop - 1) 0 (workOf (at w u)) z = e ∙ (λ i. onwards (most i - 1) 0 (ek i) z) in
-    (λ i. record { last = outcome (es i) z′; steps = x .units }) ∙ (λ i. unitsBy w eop u (f i))
+does-units w left eop u both r limit p x z z′ y s eb er el ep e ey es =
+    let most : limit ≡ limitOf (takeTurns u) (requestModeOf (at w u .mode)) left eop = el ∙ (λ i. limitOf (eb i) (er i) left eop) in
+    let row : carriedAs x z′ ≡ onwards both (limit - 1) 0 (pairOf w u) z = e ∙ (λ i. onwards both (limit - 1) 0 (ep i) z) in
+    let rest : y ≡ rested (other (x .which)) (x .rests) u = ey ∙ rests-alone both (limit - 1) w u x z z′ row in
+    (λ i. record { last = outcome ((es ∙ (λ j. unitOf (x .which) eop (rest j) (x .moved))) i) z′; steps = x .units })
+    ∙ (λ i. unitsBy eop u ((row ∙ (λ j. onwards (eb j) (most j - 1) 0 (pairOf w u) z)) i))

@@ -7,3 +7,4 @@ pub mod Answers
 pub mod StepLaws
 pub mod Stride
 pub mod StrideLaws
+pub mod PairLaws

@@ -6,20 +6,18 @@ use lib.Dec.{eqb}
 use Rattle.port.specs.declared.Which.{Which}
 use Rattle.port.specs.declared.Which.the-variants.{One, Two}
 use Rattle.space.specs.Space.{Spaces}
-use Rattle.mode.specs.declared.Mode.{Mode}
 use Rattle.mode.specs.declared.RequestMode.{RequestMode}
 use Rattle.mode.specs.declared.RequestMode.the-variants.{Single, DemandHold, DemandRelease, DemandInterleave}
 use Rattle.mode.specs.Mode.{requestModeOf}
-use Rattle.mode.specs.Reasons.{some}
 use Rattle.tag.specs.Address.{isOdd}
-use Rattle.unit.specs.declared.Moved.{Moved}
-use Rattle.unit.specs.Unit.{unitRefusal}
+use Rattle.unit.specs.Unit.{unitRefusal, worked}
 use Rattle.facts.specs.Rows.{inARow}
-use Rattle.units.specs.Units.{isDedicated, limitOf, onward, follows, onwards}
+use Rattle.units.specs.Units.{isDedicated, limitOf, onwards}
+use Rattle.port.specs.Ports.{other}
 use Rattle.channel.specs.declared.Channel.{Channel}
 use Rattle.channel.specs.Candidate.{isCandidate}
 use Rattle.request.specs.Request.{requests}
-use Rattle.channel.specs.Ending.{reasonsOf, movedBy, unendedBy, unended, afterBy, afterUnit}
+use Rattle.channel.specs.Ending.{movedBy}
 use Rattle.reload.specs.declared.Stage.{Stage}
 use Rattle.reload.specs.declared.Stage.the-variants.{Reload, Entries}
 use Rattle.reload.specs.declared.Progress.{Progress}
@@ -40,15 +38,15 @@ use Rattle.rules.specs.declared.Choice.the-variants.{Disabled, Refused, Fetch, 
 use Rattle.rules.specs.Rules.{isEnabled, isInterleaved, fetchBy, unitBy, keeperBy, beginBy, turnBy}
 use Rattle.choosing.specs.Channels.{keeper, begins, interleaves}
 use Rattle.control.specs.Set.{_⟨chain≔_⟩}
-use Rattle.control.specs.After.{unendedControl, controlBy, controlFetched}
+use Rattle.control.specs.After.{controlFetched}
 use Rattle.controller.specs.declared.Controller.{Controller}
 use Rattle.controller.specs.declared.Answer.the-variants as answer
 use Rattle.controller.specs.Set.{_⟨control≔_⟩}
 use Rattle.controller.specs.Controller.{at, with}
 use Rattle.controller.specs.Choice.{candidateBy, candidate, choiceBy, choice}
 use Rattle.controller.specs.Fetching.{fetchedBy, fetchOf}
-use Rattle.controller.specs.Step.{says, workOf, unitOf, performOf, stepOf}
-use Rattle.controller.specs.Stride.{Stride, unitsBy, single, strideBy, strideOf}
+use Rattle.controller.specs.Step.{outcome, workOf, unitOf, performOf, stepOf}
+use Rattle.controller.specs.Stride.{Stride, takeTurns, pairOf, rested, unitsBy, single, strideBy, strideOf}
 
 -- ---- what is true where a unit comes next
 
@@ -166,28 +164,19 @@ module _ (u : Controller) (w : Which) where
       let k = by-rules (isEnabled (u .master)) (u .control .chain) (u .control .note) (u .control .bus) e in
       record { enabled = k .0; chain = k .1 .0; note = k .1 .1 .0; asks = k .1 .1 .1 }
 
--- ---- what an unended unit of a dedicated mode leaves
+-- ---- a channel anew
 
-abbrev keptBy : Which → Control → Control
-keptBy w k = record { chain = k .chain; bus = Kept w; note = k .note; served = Last w }
-
-abbrev kept : Which → Controller → Controller
-kept w u = u ⟨control≔ keptBy w (u .control) ⟩
-
-abbrev pub keptOn : Which → Controller → Moved → Controller
-keptOn w u m = with w (movedBy m (at w u)) (kept w u)
-
-at-of : (w : Which) (c : Channel) (u : Controller) → at w (with w c u) ≡ c
+pub at-of : (w : Which) (c : Channel) (u : Controller) → at w (with w c u) ≡ c
 unfolding at with
 at-of One c u = refl
 at-of Two c u = refl
 
-control-of : (w : Which) (c : Channel) (u : Controller) → with w c u .control ≡ u .control
+pub control-of : (w : Which) (c : Channel) (u : Controller) → with w c u .control ≡ u .control
 unfolding with
 control-of One c u = refl
 control-of Two c u = refl
 
-master-of : (w : Which) (c : Channel) (u : Controller) → with w c u .master ≡ u .master
+pub master-of : (w : Which) (c : Channel) (u : Controller) → with w c u .master ≡ u .master
 unfolding with
 master-of One c u = refl
 master-of Two c u = refl
@@ -196,91 +185,6 @@ with-again : (w : Which) (c d : Channel) (u : Controller) (k l : Control) → wi
 unfolding with
 with-again One c d u k l = refl
 with-again Two c d u k l = refl
-
-same-control : (ends : Bool) (r : RequestMode) → isDedicated r ≡ true → (cpu chains : Bool) (w : Which) (k : Control)
-    → controlBy ends r cpu chains w (keptBy w k) ≡ controlBy ends r cpu chains w k
-same-control true r d cpu chains w k = refl
-same-control false Single d cpu chains w k = absurd (true≢false (sym d))
-same-control false DemandHold d cpu chains w k = refl
-same-control false DemandRelease d cpu chains w k = refl
-same-control false DemandInterleave d cpu chains w k = absurd (true≢false (sym d))
-
-goes : (mode : Mode) (m : Moved) → follows mode m ≡ true → (m .tc || m .compared .met) ≡ false
-goes mode m e = go (m .tc || m .compared .met) (eqb (unitRefusal mode (m .set)) 0) e
-  where
-    go : (a b : Bool) → (not a && b) ≡ true → a ≡ false
-    go true b q = absurd (true≢false (sym q))
-    go false b q = refl
-
-unrefused : (mode : Mode) (m : Moved) → follows mode m ≡ true → eqb (unitRefusal mode (m .set)) 0 ≡ true
-unrefused mode m e = go (m .tc || m .compared .met) (eqb (unitRefusal mode (m .set)) 0) e
-  where
-    go : (a b : Bool) → (not a && b) ≡ true → b ≡ true
-    go true b q = absurd (true≢false (sym q))
-    go false b q = q
-
-met-not : (m : Moved) → (m .tc || m .compared .met) ≡ false → m .compared .met ≡ false
-met-not m e = go (m .tc) (m .compared .met) e
-  where
-    go : (a b : Bool) → (a || b) ≡ false → b ≡ false
-    go true b q = absurd (true≢false q)
-    go false b q = q
-
-module _ (w : Which) (u : Controller) (m : Moved) (dedicated : isDedicated (requestModeOf (at w u .mode)) ≡ true) (f : follows (at w u .mode) m ≡ true) where
-  none : some (reasonsOf m false) ≡ false
-  unfolding some
-  none = ap (λ (b : Bool). b || false) (goes (at w u .mode) m f)
-
-  -- the state by its request mode, once the unit is known not to end
-  by-mode : (r : RequestMode) → isDedicated r ≡ true → with w (unendedBy r (movedBy m (at w u))) (u ⟨control≔ unendedControl r (isInterleaved (u .master)) w (u .control) ⟩) ≡ keptOn w u m
-  by-mode Single d = absurd (true≢false (sym d))
-  by-mode DemandHold d = refl
-  by-mode DemandRelease d = refl
-  by-mode DemandInterleave d = absurd (true≢false (sym d))
-
-  pub leaves : unitOf w false u m ≡ says (keptOn w u m) (answer.Unit w (reasonsOf m false))
-  unfolding unitOf afterUnit unended movedBy
-  leaves =
-      (λ i. says (let k = afterBy (none i) w (reasonsOf m false) (movedBy m (at w u)) in with w (k .channel) (u ⟨control≔ controlBy (none i) (requestModeOf (at w u .mode)) (isInterleaved (u .master)) (k .chains) w (u .control) ⟩)) (answer.Unit w (reasonsOf m false)))
-      ∙ ap (λ (x : Controller). says x (answer.Unit w (reasonsOf m false))) (by-mode (requestModeOf (at w u .mode)) dedicated)
-
-  pub mode-kept : at w (keptOn w u m) .mode ≡ at w u .mode
-  unfolding movedBy
-  mode-kept = ap (λ (c : Channel). c .mode) (at-of w (movedBy m (at w u)) (kept w u))
-
-  -- what the next unit works on
-  pub works : workOf (at w (keptOn w u m)) ≡ onward (workOf (at w u)) m
-  unfolding movedBy
-  works =
-      ap workOf (at-of w _ _)
-      ∙ sym (λ i. record { set = m .set; mode = at w u .mode; pattern = at w u .pattern; mask = at w u .mask; kept = record { mch = m .compared .mch; mcl = m .compared .mcl; met = met-not m (goes (at w u .mode) m f) i } })
-
-  -- the same unit comes next
-  pub again : choice u ≡ Unit w → choice (keptOn w u m) ≡ Unit w
-  unfolding choice keeper movedBy
-  again e =
-      let c = chosen u w e in
-      let v = keptOn w u m in
-      let k = control-of w (movedBy m (at w u)) (kept w u) in
-      (λ i. choiceBy (isEnabled (master-of w (movedBy m (at w u)) (kept w u) i)) (k i .chain) (k i .note) (k i .bus) v)
-      ∙ (λ i. choiceBy (c .enabled i) (c .chain i) (c .note i) (Kept w) v)
-      ∙ ap (keeper w) (at-of w (movedBy m (at w u)) (kept w u))
-      ∙ (λ i. keeperBy (c .asks i) (requestModeOf (at w u .mode)) (unitRefusal (at w u .mode) (m .set)) w)
-      ∙ (λ i. cond (unrefused (at w u .mode) m f i) (Unit w) (Refused (unitRefusal (at w u .mode) (m .set))))
-
-  -- a further unit leaves the same as if the first had not been
-  pub joins : (n : Moved) → unitOf w false (keptOn w u m) n ≡ unitOf w false u n
-  unfolding unitOf afterUnit movedBy
-  joins n =
-      let v = keptOn w u m in
-      let why = reasonsOf n false in
-      let k = control-of w (movedBy m (at w u)) (kept w u) in
-      (λ i. (let e = afterBy (some why) w why (movedBy n (at-of w (movedBy m (at w u)) (kept w u) i)) in
-      says (with w (e .channel) (v ⟨control≔ controlBy (some why) (requestModeOf (at-of w (movedBy m (at w u)) (kept w u) i .mode)) (isInterleaved (master-of w (movedBy m (at w u)) (kept w u) i)) (e .chains) w (k i) ⟩)) (answer.Unit w why)))
-      ∙ (λ i. (let e = afterBy (some why) w why (movedBy n (at w u)) in
-      says (with w (e .channel) (v ⟨control≔ same-control (some why) (requestModeOf (at w u .mode)) dedicated (isInterleaved (u .master)) (e .chains) w (u .control) i ⟩)) (answer.Unit w why)))
-      ∙ (let e = afterBy (some why) w why (movedBy n (at w u)) in
-      ap (λ (x : Controller). says x (answer.Unit w why)) (with-again w (movedBy m (at w u)) (e .channel) u _ _))
 
 -- ---- what a word that is fetched leaves, if another follows
 
@@ -339,8 +243,20 @@ module _ (w : Which) (u : Controller) (c : Channel) (p : Progress) where
 
 -- ---- one step
 
-one-at-most : (r : RequestMode) (eop : Bool) → limitOf r 1 eop ≡ 1
-one-at-most r eop = go (isDedicated r && not eop)
+-- a channel that has done no unit rests as it is
+pub unrested : (w : Which) (u : Controller) → rested w (workOf (at w u)) u ≡ u
+unfolding at with movedBy
+unrested One u = refl
+unrested Two u = refl
+
+pub one-unit : (both eop : Bool) (w : Which) (u : Controller) (z : Spaces) → unitsBy eop u (onwards both 0 0 (pairOf w u) z) ≡ single (performOf (Unit w) eop u z)
+unfolding inARow performOf
+one-unit both eop w u z =
+    let k = worked (workOf (at w u)) z in
+    ap (λ (v : Controller). single (outcome (unitOf w eop v (k .moved)) (k .spaces))) (unrested (other w) u)
+
+one-at-most : (both : Bool) (r : RequestMode) (eop : Bool) → limitOf both r 1 eop ≡ 1
+one-at-most both r eop = go (not eop && (both || isDedicated r))
   where
     go : (b : Bool) → _≡_ {A = ℕ} (cond b 1 1) 1
     go true = refl
@@ -354,7 +270,8 @@ by-itself (Fetch w stage) true u z = refl
 by-itself (Fetch w stage) false u z = refl
 by-itself GiveBack eop u z = refl
 by-itself (Unit w) eop u z =
-    ap (λ (n : ℕ). unitsBy w eop u (onwards (n - 1) 0 (workOf (at w u)) z)) (one-at-most (requestModeOf (at w u .mode)) eop)
+    ap (λ (n : ℕ). unitsBy eop u (onwards (takeTurns u) (n - 1) 0 (pairOf w u) z)) (one-at-most (takeTurns u) (requestModeOf (at w u .mode)) eop)
+    ∙ one-unit (takeTurns u) eop w u z
 by-itself (Hold w) eop u z = refl
 by-itself Release eop u z = refl
 by-itself Idle eop u z = refl

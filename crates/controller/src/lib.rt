@@ -1,14 +1,15 @@
 // The controller: its state, which step comes next, and the step.
 ghost use mathlib.Core.Path.{_≡_};
-ghost use mathlib.Core.Bool.{true};
+ghost use mathlib.Core.Bool.{true, cond};
 ghost use Rattle.space.specs.Space.{spaces};
+ghost use Rattle.port.specs.Ports.{other};
 ghost use Rattle.controller.specs.Set.{_⟨control≔_⟩};
 ghost use Rattle.controller.specs.Controller.{at, with, resetOf};
 ghost use Rattle.choosing.specs.Channels.{keeper, begins};
 ghost use Rattle.controller.specs.Choice.{candidate, choiceBy, choice};
 ghost use Rattle.mode.specs.Mode.{requestModeOf};
 ghost use Rattle.controller.specs.Step.{outcome, workOf, goneOn, endedAfter, unitOf, holdOf, backOf, stepOf};
-ghost use Rattle.controller.specs.Stride.{strode, once, fetchesBy, strideBy, strideOf};
+ghost use Rattle.controller.specs.Stride.{strode, once, takeTurns, pairOf, rested, fetchesBy, strideBy, strideOf};
 ghost use Rattle.rules.specs.declared.Choice.the-variants as choice;
 use channel::Channel;
 use control::Back;
@@ -25,6 +26,7 @@ use rules::Served;
 use rules::Turn;
 use unit::Moved;
 use unit::Work;
+use units::Pair;
 
 pub struct Controller {
     pub pointer: u16,
@@ -236,14 +238,73 @@ impl Controller {
         }
     }
 
-    // The registers that a channel's unit works on, and no whole channel, since a copy costs.
-    fn work(self, w: Which) -> Work
-        ensures { λ r. ⌜ r ≡ workOf (at w self) ⌝ }
+    // Two channels in demand interleave take turns; CPU interleave set would give the bus back between them. The mode of the one that
+    // comes first is looked at first, since it mostly tells.
+    fn take_turns(self, w: Which) -> bool
+        ensures { λ r. ⌜ r ≡ takeTurns self ⌝ }
     {
-        match w {
-            Which::One => work_of(self.one),
-            Which::Two => work_of(self.two),
+        if rules::is_interleave(self.request_mode(w)) {
+            return !rules::is_interleaved(self.master)
+                & (choosing::is_in_turn(self.one) & choosing::is_in_turn(self.two));
         }
+        false
+    }
+
+    // The registers that the channels' units work on, and no whole channel, since a copy costs.
+    fn pair(self, w: Which) -> Pair
+        ensures { λ r. ⌜ r ≡ pairOf w self ⌝ }
+    {
+        let one = work_of(self.one);
+        let two = work_of(self.two);
+        match w {
+            Which::One => Pair {
+                which: w,
+                work: one,
+                other: two,
+            },
+            Which::Two => Pair {
+                which: w,
+                work: two,
+                other: one,
+            },
+        }
+    }
+
+    // A channel that rests has the registers that its latest unit left.
+    fn rest(mut self, w: Which, k: Work) -> Controller
+        ensures { λ r. ⌜ r ≡ rested w k self ⌝ }
+    {
+        let set = k.set;
+        let compared = k.kept;
+        let m = Moved {
+            set,
+            compared,
+            tc: false,
+        };
+        match w {
+            Which::One => {
+                let c = self.one.with_moved(m);
+                self.one = c;
+                self
+            }
+            Which::Two => {
+                let c = self.two.with_moved(m);
+                self.two = c;
+                self
+            }
+        }
+    }
+
+    // The channel whose unit is not the last rests; alone it has done none.
+    fn rest_other(self, both: bool, w: Which, k: Work) -> Controller
+        ensures { λ r. ⌜ r ≡ cond both (rested (other w) k self) self ⌝ }
+    {
+        let mut next = self;
+        if both {
+            let rested = self.rest(port::other(w), k);
+            next = rested;
+        }
+        next
     }
 
     fn request_mode(self, w: Which) -> RequestMode
@@ -361,14 +422,17 @@ impl Controller {
         }
     }
 
-    // Units that follow each other, with the bus kept between them.
+    // Units that follow each other, of one channel or of two in turn.
     fn units(self, w: Which, left: u32, eop: bool, memory: &mut [u8], io: &mut [u8]) -> Strode
         ensures { λ r. ⌜ strode r (spaces (now (memory .exit)) (now (io .exit))) ≡ strideBy (choice.Unit w) left eop self (spaces (now (memory .entry)) (now (io .entry))) ⌝ }
     {
-        let limit = units::limit(self.request_mode(w), left, eop);
-        let k = units::carry_on(self.work(w), limit, memory, io);
+        let both = self.take_turns(w);
+        let limit = units::limit(both, self.request_mode(w), left, eop);
+        let k = units::carry_on(self.pair(w), both, limit, memory, io);
+        let v = k.which;
         let m = k.moved;
-        let s = self.settle_unit(w, eop, m);
+        let rests = k.rests;
+        let s = self.rest_other(both, v, rests).settle_unit(v, eop, m);
         let state = s.state;
         let answer = s.answer;
         Strode {

@@ -68,3 +68,7 @@ isOther One One = false
 isOther One Two = true
 isOther Two One = true
 isOther Two Two = false
+
+abbrev pub other : Which → Which
+other One = Two
+other Two = One

@@ -1,6 +1,6 @@
 // The ports: which register stands at the pointer, for reads and for writes.
 ghost use mathlib.Core.Path.{_≡_};
-ghost use Rattle.port.specs.Ports.{readPort, writePort, keptPointer, isOther};
+ghost use Rattle.port.specs.Ports.{readPort, writePort, keptPointer, isOther, other};
 
 // Which channel.
 pub enum Which {
@@ -148,5 +148,14 @@ pub fn is_other(w: Which, k: Which) -> bool
             Which::One => true,
             Which::Two => false,
         },
+    }
+}
+
+pub fn other(w: Which) -> Which
+    ensures { λ r. ⌜ r ≡ other w ⌝ }
+{
+    match w {
+        Which::One => Which::Two,
+        Which::Two => Which::One,
     }
 }

@@ -2,17 +2,18 @@
 use Prim.Native.Nat.{ℕ, zero, suc, _+_, _-_, _<_, _≤_}
 use native.Mathlib.Omega.{arith}
 use native.Mathlib.Numerals.{add-one}
-use mathlib.Core.Path.{_≡_, refl, sym, ap, _∙_}
-use mathlib.Core.Bool.{Bool, true, false, not, cond, _&&_, true≢false}
+use mathlib.Core.Path.{_≡_, refl, sym, ap, subst, _∙_}
+use mathlib.Core.Bool.{Bool, true, false, not, cond, _&&_, _||_, true≢false}
 use Rattle.facts.specs.Rows.{Row, Turns, inARow, counted}
 use Rattle.port.specs.declared.Which.{Which}
 use Rattle.space.specs.Space.{Spaces}
-use Rattle.mode.specs.declared.Mode.{Mode}
 use Rattle.mode.specs.Mode.{requestModeOf}
 use Rattle.unit.specs.declared.Work.{Work}
 use Rattle.unit.specs.declared.Moved.{Moved}
-use Rattle.unit.specs.Unit.{Worked, worked}
-use Rattle.units.specs.Units.{isDedicated, onward, follows, At as UnitAt, unitTurns, onwards}
+use Rattle.unit.specs.Unit.{worked}
+use Rattle.units.specs.declared.Pair.{Pair}
+use Rattle.units.specs.Units.{isDedicated, after, follows, At as UnitAt, Done, unitTurns, onwards}
+use Rattle.port.specs.Ports.{other}
 use Rattle.channel.specs.declared.Channel.{Channel}
 use Rattle.reload.specs.declared.Stage.{Stage}
 use Rattle.reload.specs.declared.Next.{Next}
@@ -28,8 +29,9 @@ use Rattle.controller.specs.Controller.{at}
 use Rattle.controller.specs.Choice.{choice}
 use Rattle.controller.specs.Fetching.{fetchedBy, fetchOf}
 use Rattle.controller.specs.Step.{Outcome, outcome, says, workOf, unitOf, performOf, stepOf}
-use Rattle.controller.specs.Stride.{Stride, strode, unitsBy, fetchesBy, single, strideBy, strideOf}
-use Rattle.controller.specs.StrideLaws.{keptOn, leaves, mode-kept, works, again, joins, fetchedOn, at-fetched, fetch-again, fetch-joins}
+use Rattle.controller.specs.Stride.{Stride, strode, takeTurns, pairOf, rested, unitDone, unitsBy, fetchesBy, single, strideBy, strideOf}
+use Rattle.controller.specs.StrideLaws.{fetchedOn, at-fetched, fetch-again, fetch-joins, unrested, one-unit}
+use Rattle.controller.specs.PairLaws.{flows, goes, goneBy, leaves, passes, flows-on, comes, joins}
 use Rattle.running.specs.Run.{RunOutcome, stops, nextBy, advanced}
 
 -- ---- one step, at the numbers that a loop has
@@ -77,51 +79,59 @@ module _ {S R : Type 0} (t : Turns S R) (eop : Bool) (out : R → Outcome) (P : 
       (t .follows s (t .result s))
       refl
 
--- ---- units that follow each other
+-- ---- units that follow each other, of one channel or of two in turn
 
 unit-step : (w : Which) (eop : Bool) (u : Controller) (z : Spaces) → choice u ≡ Unit w
     → outcome (unitOf w eop u (worked (workOf (at w u)) z .moved)) (worked (workOf (at w u)) z .spaces) ≡ stepOf eop u z
 unfolding stepOf performOf
 unit-step w eop u z e = sym (ap (λ (c : Choice). performOf c eop u z) e)
 
--- the controller stands before a unit of channel w, and what the unit leaves is what it would leave of u
-record Units (w : Which) (u : Controller) (s : UnitAt) (o : Outcome) : Type 0 where
-  chosen : choice (o .stepped .state) ≡ Unit w
-  dedicated : isDedicated (requestModeOf (at w (o .stepped .state) .mode)) ≡ true
-  work : workOf (at w (o .stepped .state)) ≡ s .work
+-- the controller stands before the pair's unit, and what a unit leaves is what it would leave of u with the pair's registers
+record Units (both : Bool) (u : Controller) (s : UnitAt) (o : Outcome) : Type 0 where
+  chosen : choice (o .stepped .state) ≡ Unit (s .pair .which)
+  flows : flows both (s .pair .which) (o .stepped .state) ≡ true
+  pair : pairOf (s .pair .which) (o .stepped .state) ≡ s .pair
   spaces : o .spaces ≡ s .spaces
-  same : (m : Moved) → unitOf w false (o .stepped .state) m ≡ unitOf w false u m
+  same : (x : Which) (k : Work) (m : Moved) → unitOf x false (rested (other x) k (o .stepped .state)) m ≡ unitOf x false (rested (other x) k u) m
 
-module _ (w : Which) (u : Controller) where
-  abbrev unit-out : Worked → Outcome
-  unit-out k = outcome (unitOf w false u (k .moved)) (k .spaces)
-
-  unit-on : (k : Worked) → stops (unit-out k .stepped .answer) ≡ false
+module _ (both : Bool) (u : Controller) where
+  unit-on : (k : Done) → stops (unitDone false u k .stepped .answer) ≡ false
   unfolding unitOf
   unit-on k = refl
 
-  unit-steps : (s : UnitAt) (o : Outcome) → Units w u s o → unit-out (worked (s .work) (s .spaces)) ≡ nextBy false o
-  unit-steps s o p =
+  -- a unit by itself leaves what it leaves of u
+  as-one : (s : UnitAt) (o : Outcome) → Units both u s o → (m : Moved) → unitOf (s .pair .which) false (o .stepped .state) m ≡ unitOf (s .pair .which) false (rested (other (s .pair .which)) (s .pair .other) u) m
+  as-one s o p m =
+      let w = s .pair .which in
       let v = o .stepped .state in
-      let k : worked (s .work) (s .spaces) ≡ worked (workOf (at w v)) (o .spaces) = sym (λ i. worked (p .work i) (p .spaces i)) in
-      ap unit-out k
-      ∙ sym (ap (λ (y : Stepped). outcome y (worked (workOf (at w v)) (o .spaces) .spaces)) (p .same (worked (workOf (at w v)) (o .spaces) .moved)))
+      sym (ap (λ (x : Controller). unitOf w false x m) (unrested (other w) v))
+      ∙ p .same w (workOf (at (other w) v)) m
+      ∙ ap (λ (q : Pair). unitOf w false (rested (other w) (q .other) u) m) (p .pair)
+
+  unit-steps : (s : UnitAt) (o : Outcome) → Units both u s o → unitDone false u (unitTurns both .result s) ≡ nextBy false o
+  unit-steps s o p =
+      let w = s .pair .which in
+      let v = o .stepped .state in
+      let k = worked (workOf (at w v)) (o .spaces) in
+      sym (λ i. outcome (unitOf w false (rested (other w) (s .pair .other) u) (worked (p .pair i .work) (p .spaces i) .moved)) (worked (p .pair i .work) (p .spaces i) .spaces))
+      ∙ sym (ap (λ (y : Stepped). outcome y (k .spaces)) (as-one s o p (k .moved)))
       ∙ unit-step w false v (o .spaces) (p .chosen)
 
-  unit-next : (s : UnitAt) (o : Outcome) → Units w u s o → unitTurns .follows s (unitTurns .result s) ≡ true
-      → Units w u (unitTurns .next s (unitTurns .result s)) (unit-out (unitTurns .result s))
+  unit-next : (s : UnitAt) (o : Outcome) → Units both u s o → unitTurns both .follows s (unitTurns both .result s) ≡ true
+      → Units both u (unitTurns both .next s (unitTurns both .result s)) (unitDone false u (unitTurns both .result s))
   unit-next s o p f =
+      let w = s .pair .which in
       let v = o .stepped .state in
-      let m = worked (s .work) (s .spaces) .moved in
-      let mode : at w v .mode ≡ s .work .mode = ap (λ (x : Work). x .mode) (p .work) in
-      let g : follows (at w v .mode) m ≡ true = ap (λ (x : Mode). follows x m) mode ∙ f in
-      let there : unitOf w false u m .state ≡ keptOn w v m = ap (λ (y : Stepped). y .state) (sym (p .same m) ∙ leaves w v m (p .dedicated) g) in
+      let m = worked (s .pair .work) (s .spaces) .moved in
+      let g = goes m (after both (pairOf w v) m .work) (ap (λ (q : Pair). follows m (after both q m .work)) (p .pair) ∙ f) in
+      let there : unitOf w false (rested (other w) (s .pair .other) u) m .state ≡ goneBy both w v m = ap (λ (y : Stepped). y .state) (sym (as-one s o p m) ∙ leaves w v m both (p .flows) (g .0)) in
+      let next : after both (s .pair) m ≡ after both (pairOf w v) m = sym (ap (λ (q : Pair). after both q m) (p .pair)) in
       record {
-        chosen = ap choice there ∙ again w v m (p .dedicated) g (p .chosen);
-        dedicated = ap (λ (x : Controller). isDedicated (requestModeOf (at w x .mode))) there ∙ ap (λ (x : Mode). isDedicated (requestModeOf x)) (mode-kept w v m (p .dedicated) g) ∙ p .dedicated;
-        work = ap (λ (x : Controller). workOf (at w x)) there ∙ works w v m (p .dedicated) g ∙ ap (λ (x : Work). onward x m) (p .work);
+        chosen = ap choice there ∙ comes w v m both (p .flows) (g .1) (p .chosen) ∙ sym (ap (λ (q : Pair). Unit (q .which)) next);
+        flows = (λ i. flows both (next i .which) (there i)) ∙ flows-on w v m both (p .flows);
+        pair = (λ i. pairOf (next i .which) (there i)) ∙ passes w v m both (g .0) ∙ sym next;
         spaces = refl;
-        same = λ n. ap (λ (x : Controller). unitOf w false x n) there ∙ joins w v m (p .dedicated) g n ∙ p .same n;
+        same = λ x k n. ap (λ (y : Controller). unitOf x false (rested (other x) k y) n) there ∙ joins both w v m x k n ∙ p .same x k n;
       }
 
 -- ---- words of a chain that follow each other
@@ -205,18 +215,23 @@ module _ (N k : ℕ) (u : Controller) (a : Answer) (z : Spaces) (h : k < N) wher
         stop = λ q. absurd (true≢false (sym q ∙ unstopped (inARow t (N - k - 1) 0 s .last)));
       }
 
-  by-limit : (eop : Bool) (w : Which) → choice u ≡ Unit w → (r : Bool) → isDedicated (requestModeOf (at w u .mode)) ≡ r
-      → Strides eop N k from (unitsBy w eop u (onwards (cond (r && not eop) (N - k) 1 - 1) 0 (workOf (at w u)) z))
-  unfolding inARow performOf
-  by-limit false w c true d =
-      let s : UnitAt = record { work = workOf (at w u); spaces = z } in
-      of-row unitTurns (unit-out w u) s (unit-on w u)
-      (in-a-row unitTurns false (unit-out w u) (Units w u) (unit-steps w u) (unit-on w u) (unit-next w u) N k (N - k - 1) 0 s from
-      (record { chosen = c; dedicated = d; work = refl; spaces = refl; same = λ m. refl })
+  of-units : (both : Bool) (w : Which) → choice u ≡ Unit w → flows both w u ≡ true → Strides false N k from (unitsBy false u (onwards both (N - k - 1) 0 (pairOf w u) z))
+  of-units both w c f =
+      let s : UnitAt = record { pair = pairOf w u; spaces = z } in
+      of-row (unitTurns both) (unitDone false u) s (unit-on both u)
+      (in-a-row (unitTurns both) false (unitDone false u) (Units both u) (unit-steps both u) (unit-on both u) (unit-next both u) N k (N - k - 1) 0 s from
+      (record { chosen = c; flows = f; pair = refl; spaces = refl; same = λ x y m. refl })
       (omega arith))
-  by-limit true w c true d = alone true (Unit w) c
-  by-limit false w c false d = alone false (Unit w) c
-  by-limit true w c false d = alone true (Unit w) c
+
+  one-of : (eop both : Bool) (w : Which) → choice u ≡ Unit w → Strides eop N k from (unitsBy eop u (onwards both 0 0 (pairOf w u) z))
+  one-of eop both w c = subst (Strides eop N k from) (sym (one-unit both eop w u z)) (alone eop (Unit w) c)
+
+  by-limit : (eop : Bool) (w : Which) → choice u ≡ Unit w → (both : Bool) → takeTurns u ≡ both → (r : Bool) → isDedicated (requestModeOf (at w u .mode)) ≡ r
+      → Strides eop N k from (unitsBy eop u (onwards both (cond (not eop && (both || r)) (N - k) 1 - 1) 0 (pairOf w u) z))
+  by-limit false w c true t r d = of-units true w c t
+  by-limit false w c false t true d = of-units false w c d
+  by-limit false w c false t false d = one-of false false w c
+  by-limit true w c both t r d = one-of true both w c
 
   by-eop : (eop : Bool) (w : Which) (stage : Stage) → choice u ≡ Fetch w stage → Strides eop N k from (strode (fetchesBy eop w stage (N - k) u (z .memory)) z)
   unfolding performOf
@@ -234,7 +249,7 @@ module _ (N k : ℕ) (u : Controller) (a : Answer) (z : Spaces) (h : k < N) wher
   by-choice eop (Refused n) e = alone eop (Refused n) e
   by-choice eop (Fetch w stage) e = by-eop eop w stage e
   by-choice eop GiveBack e = alone eop GiveBack e
-  by-choice eop (Unit w) e = by-limit eop w e (isDedicated (requestModeOf (at w u .mode))) refl
+  by-choice eop (Unit w) e = by-limit eop w e (takeTurns u) refl (isDedicated (requestModeOf (at w u .mode))) refl
   by-choice eop (Hold w) e = alone eop (Hold w) e
   by-choice eop Release e = alone eop Release e
   by-choice eop Idle e = alone eop Idle e

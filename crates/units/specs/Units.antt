@@ -1,16 +1,20 @@
--- Units of one operation that follow each other with nothing between them: each is a unit of document 01, "Moving a unit". Assumes
--- nothing.
-use Prim.Native.Nat.{ℕ}
+-- Units that follow each other with nothing between them, of one channel or of two that take turns: each is a unit of document 01,
+-- "Moving a unit". Assumes nothing.
+use Prim.Native.Nat.{ℕ, zero, suc}
+use mathlib.Core.Path.{_≡_, refl}
 use mathlib.Core.Bool.{Bool, true, false, not, cond, _&&_, _||_}
 use lib.Dec.{eqb}
 use Rattle.facts.specs.Rows.{Row, Turns, inARow}
 use Rattle.space.specs.Space.{Spaces}
-use Rattle.mode.specs.declared.Mode.{Mode}
+use Rattle.port.specs.declared.Which.{Which}
+use Rattle.port.specs.Ports.{other}
 use Rattle.mode.specs.declared.RequestMode.{RequestMode}
 use Rattle.mode.specs.declared.RequestMode.the-variants.{Single, DemandHold, DemandRelease, DemandInterleave}
 use Rattle.unit.specs.declared.Work.{Work}
 use Rattle.unit.specs.declared.Moved.{Moved}
 use Rattle.unit.specs.Unit.{unitRefusal, Worked, whole, worked}
+use Rattle.units.specs.declared.Pair.{Pair}
+use Rattle.units.specs.declared.MovedOn.{MovedOn}
 use Rattle.units.specs.declared.Carried.{Carried}
 
 -- After an unended unit both dedicated modes keep the bus.
@@ -21,32 +25,86 @@ isDedicated DemandRelease = true
 isDedicated DemandInterleave = false
 
 -- of so many steps, how many may be units that follow each other; EOP ends the first
-abbrev pub limitOf : RequestMode → ℕ → Bool → ℕ
-limitOf mode left eop = cond (isDedicated mode && not eop) left 1
+abbrev pub limitOf : Bool → RequestMode → ℕ → Bool → ℕ
+limitOf both mode left eop = cond (not eop && (both || isDedicated mode)) left 1
 
--- what the next unit works on
+-- the registers as the unit leaves them
 abbrev pub onward : Work → Moved → Work
 onward w m = record { set = m .set; mode = w .mode; pattern = w .pattern; mask = w .mask; kept = m .compared }
 
 -- The unit does not end its operation, and the next is not refused by 8.
-abbrev pub follows : Mode → Moved → Bool
-follows mode m = not (m .tc || m .compared .met) && eqb (unitRefusal mode (m .set)) 0
+abbrev pub follows : Moved → Work → Bool
+follows m next = not (m .tc || m .compared .met) && eqb (unitRefusal (next .mode) (next .set)) 0
+
+-- ---- of one channel
 
 -- what a unit works on, and over which spaces
-pub record At : Type 0 where
+pub record WorkAt : Type 0 where
   pub work : Work
   pub spaces : Spaces
 
-abbrev pub unitTurns : Turns At Worked
-unitTurns = record {
+abbrev pub moveTurns : Turns WorkAt Worked
+moveTurns = record {
   result = λ s. worked (s .work) (s .spaces);
-  follows = λ s k. follows (s .work .mode) (k .moved);
+  follows = λ s k. follows (k .moved) (onward (s .work) (k .moved));
   next = λ s k. record { work = onward (s .work) (k .moved); spaces = k .spaces };
 }
 
-abbrev pub carriedAs : Carried → Spaces → Row Worked
-carriedAs r z = record { last = whole (r .moved) z; count = r .units }
+abbrev pub movedOnAs : MovedOn → Spaces → Row Worked
+movedOnAs r z = record { last = whole (r .moved) z; count = r .units }
 
 -- With `done` units done, one, and of up to `more` each that follows.
-abbrev pub onwards : ℕ → ℕ → Work → Spaces → Row Worked
-onwards more done w z = inARow unitTurns more done (record { work = w; spaces = z })
+abbrev pub movedOn : ℕ → ℕ → Work → Spaces → Row Worked
+movedOn more done w z = inARow moveTurns more done (record { work = w; spaces = z })
+
+-- ---- of one channel, or of both in turn
+
+-- the other's turn
+abbrev pub pass : Pair → Moved → Pair
+pass p m = record { which = other (p .which); work = p .other; other = onward (p .work) m }
+
+-- before the next unit
+abbrev pub after : Bool → Pair → Moved → Pair
+after true p m = pass p m
+after false p m = record { which = p .which; work = onward (p .work) m; other = p .other }
+
+-- a pair before a unit, and over which spaces
+pub record At : Type 0 where
+  pub pair : Pair
+  pub spaces : Spaces
+
+-- whose the unit was, the registers of the channel that rested, and what the unit leaves
+pub record Done : Type 0 where
+  pub which : Which
+  pub rests : Work
+  pub unit : Worked
+
+abbrev pub unitTurns : Bool → Turns At Done
+unitTurns both = record {
+  result = λ s. record { which = s .pair .which; rests = s .pair .other; unit = worked (s .pair .work) (s .spaces) };
+  follows = λ s k. follows (k .unit .moved) (after both (s .pair) (k .unit .moved) .work);
+  next = λ s k. record { pair = after both (s .pair) (k .unit .moved); spaces = k .unit .spaces };
+}
+
+abbrev pub carriedAs : Carried → Spaces → Row Done
+carriedAs r z = record { last = record { which = r .which; rests = r .rests; unit = whole (r .moved) z }; count = r .units }
+
+abbrev pub onwards : Bool → ℕ → ℕ → Pair → Spaces → Row Done
+onwards both more done p z = inARow (unitTurns both) more done (record { pair = p; spaces = z })
+
+-- ---- the same, where the other rests all the time
+
+abbrev pub resting : Which → Work → Row Worked → Row Done
+resting w k r = record { last = record { which = w; rests = k; unit = r .last }; count = r .count }
+
+pub of-one : (w : Which) (k : Work) (n j : ℕ) (x : Work) (z : Spaces) → onwards false n j (record { which = w; work = x; other = k }) z ≡ resting w k (movedOn n j x z)
+unfolding inARow
+of-one w k zero j x z = refl
+of-one w k (suc n) j x z =
+    let d = worked x z in
+    go (follows (d .moved) (onward x (d .moved))) (of-one w k n (suc j) (onward x (d .moved)) (d .spaces))
+  where
+    go : (b : Bool) {a : Row Done} {c : Row Worked} → a ≡ resting w k c
+        → cond b a (record { last = record { which = w; rests = k; unit = worked x z }; count = suc j }) ≡ resting w k (cond b c (record { last = worked x z; count = suc j }))
+    go true e = e
+    go false e = refl

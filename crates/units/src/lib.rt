@@ -1,16 +1,32 @@
-// Units of one operation that follow each other with nothing between them.
+// Units that follow each other with nothing between them, of one channel or of two that take turns.
 ghost use mathlib.Core.Path.{_≡_};
+ghost use mathlib.Core.Bool.{cond};
 ghost use Prim.Native.Nat.{_-_};
 ghost use Rattle.space.specs.Space.{spaces};
-ghost use Rattle.units.specs.Units.{isDedicated, limitOf, onward, follows, carriedAs, onwards};
-use mode::Mode;
+ghost use Rattle.units.specs.Units.{isDedicated, limitOf, onward, pass, follows, movedOnAs, movedOn, carriedAs, onwards};
 use mode::RequestMode;
+use port::Which;
 use unit::Moved;
 use unit::Work;
 
-// What the last unit made of the registers, and how many there were.
+// Before a unit: whose it is, what it works on, and the registers of the other channel, which rests.
+pub struct Pair {
+    pub which: Which,
+    pub work: Work,
+    pub other: Work,
+}
+
+// What the last unit of one channel made of its registers, and how many units there were.
+struct MovedOn {
+    moved: Moved,
+    units: u32,
+}
+
+// Whose the last unit was, what it made of the registers, those of the channel that rested, and how many units there were.
 pub struct Carried {
+    pub which: Which,
     pub moved: Moved,
+    pub rests: Work,
     pub units: u32,
 }
 
@@ -27,13 +43,17 @@ fn is_dedicated(mode: RequestMode) -> bool
 }
 
 // Of so many steps, how many may be units that follow each other; EOP ends the first.
-pub fn limit(mode: RequestMode, left: u32, eop: bool) -> u32
-    ensures { λ r. ⌜ r ≡ limitOf mode left eop ⌝ }
+pub fn limit(both: bool, mode: RequestMode, left: u32, eop: bool) -> u32
+    ensures { λ r. ⌜ r ≡ limitOf both mode left eop ⌝ }
 {
-    if is_dedicated(mode) & !eop { left } else { 1 }
+    if !eop & (both | is_dedicated(mode)) {
+        left
+    } else {
+        1
+    }
 }
 
-// What the next unit works on.
+// The registers as the unit leaves them.
 fn onward(mut w: Work, m: Moved) -> Work
     ensures { λ r. ⌜ r ≡ onward w m ⌝ }
 {
@@ -44,16 +64,30 @@ fn onward(mut w: Work, m: Moved) -> Work
     w
 }
 
-// Whether a unit follows: this one does not end the operation, and the next is not refused.
-fn follows(mode: Mode, m: Moved) -> bool
-    ensures { λ r. ⌜ r ≡ follows mode m ⌝ }
+// The other's turn.
+fn pass(p: Pair, m: Moved) -> Pair
+    ensures { λ r. ⌜ r ≡ pass p m ⌝ }
 {
-    !(m.tc | m.compared.met) & (unit::unit_refusal(mode, m.set) == 0)
+    let which = p.which;
+    let on = onward(p.work, m);
+    let rests = p.other;
+    Pair {
+        which: port::other(which),
+        work: rests,
+        other: on,
+    }
 }
 
-// A unit, and those that follow it, up to a limit.
-pub fn carry_on(w: Work, limit: u32, memory: &mut [u8], io: &mut [u8]) -> Carried
-    ensures { λ r. ⌜ carriedAs r (spaces (now (memory .exit)) (now (io .exit))) ≡ onwards (limit - 1) 0 w (spaces (now (memory .entry)) (now (io .entry))) ⌝ }
+// Whether a unit follows: this one does not end its operation, and the next is not refused.
+fn follows(m: Moved, next: Work) -> bool
+    ensures { λ r. ⌜ r ≡ follows m next ⌝ }
+{
+    !(m.tc | m.compared.met) & (unit::unit_refusal(next.mode, next.set) == 0)
+}
+
+// A unit, and those of the same channel that follow it, up to a limit.
+fn move_on(w: Work, limit: u32, memory: &mut [u8], io: &mut [u8]) -> MovedOn
+    ensures { λ r. ⌜ movedOnAs r (spaces (now (memory .exit)) (now (io .exit))) ≡ movedOn (limit - 1) 0 w (spaces (now (memory .entry)) (now (io .entry))) ⌝ }
 {
     let set = w.set;
     let compared = w.kept;
@@ -68,8 +102,54 @@ pub fn carry_on(w: Work, limit: u32, memory: &mut [u8], io: &mut [u8]) -> Carrie
     while going {
         moved = unit::carry(work, memory, io);
         units += 1;
-        going = (units < limit) & follows(work.mode, moved);
         work = onward(work, moved);
+        going = (units < limit) & follows(moved, work);
     }
-    Carried { moved, units }
+    MovedOn { moved, units }
+}
+
+// A turn of two is one unit.
+fn turn_limit(both: bool, limit: u32) -> u32
+    ensures { λ r. ⌜ r ≡ cond both 1 limit ⌝ }
+{
+    if both { 1 } else { limit }
+}
+
+// Units of one channel, or of both in turn, up to a limit. The inner loop has what stays the same from unit to unit outside of it.
+pub fn carry_on(first: Pair, both: bool, limit: u32, memory: &mut [u8], io: &mut [u8]) -> Carried
+    ensures { λ r. ⌜ carriedAs r (spaces (now (memory .exit)) (now (io .exit))) ≡ onwards both (limit - 1) 0 first (spaces (now (memory .entry)) (now (io .entry))) ⌝ }
+{
+    let most = turn_limit(both, limit);
+    let work = first.work;
+    let set = work.set;
+    let compared = work.kept;
+    let mut moved = Moved {
+        set,
+        compared,
+        tc: false,
+    };
+    let mut pair = first;
+    let mut next = first;
+    let mut units: u32 = 0;
+    let mut going = true;
+    while going {
+        pair = next;
+        let k = move_on(pair.work, most, memory, io);
+        let m = k.moved;
+        moved = m;
+        units += k.units;
+        going = false;
+        if both {
+            next = pass(pair, moved);
+            going = (units < limit) & follows(moved, next.work);
+        }
+    }
+    let which = pair.which;
+    let rests = pair.other;
+    Carried {
+        which,
+        moved,
+        rests,
+        units,
+    }
 }

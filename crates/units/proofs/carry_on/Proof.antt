@@ -1,64 +1,94 @@
 use Prim.Native.Nat.{_-_, _+_}
 use native.Mathlib.Omega.{arith}
-use mathlib.Core.Path.{refl, _∙_}
-use mathlib.Core.Bool.{cond, _&&_}
-use lib.Dec.{ltb}
+use mathlib.Core.Path.{refl, sym, _∙_}
+use mathlib.Core.Bool.{cond, true≢false}
 use borrow.Author.Needs.{needs}
-use Rattle.facts.specs.Rows.{begun, on-yet, all-done, turn, fewer-left}
+use Rattle.facts.specs.Rows.{begun, all-done}
 use Rattle.space.specs.Space.{spaces}
 use Rattle.units.specs.Units.{unitTurns}
-use Rattle.units.proofs.Laws.{Going}
+use Rattle.units.proofs.Laws.{Turning, Turn, counts, less-two, turned-two, less-one, done-one}
 use Rattle.units.proofs.carry_on.Statement.{statement}
 use Rattle.units.proofs.carry_on.Tie as tie
 
 abbrev Inv-loop : tie.InvT-loop
-Inv-loop limit memory₀ io₀ work₀ moved₀ units₀ going₀ memory io work moved units going = Going limit memory₀ io₀ work₀ memory io work moved units going
+Inv-loop both limit memory₀ io₀ most moved₀ pair₀ next₀ units₀ going₀ memory io moved pair next units going = Turning both limit memory₀ io₀ next₀ memory io moved pair next units going
 
 abbrev μ-loop : tie.MeasureT-loop
-μ-loop limit memory₀ io₀ work₀ moved₀ units₀ going₀ memory io work moved units going = cond going (limit + 1 - units) 0
+μ-loop both limit memory₀ io₀ most moved₀ pair₀ next₀ units₀ going₀ memory io moved pair next units going = cond going (limit + 1 - units) 0
+
+turn-limit-requires : tie.Need-turn-limit-requires Inv-loop μ-loop
+turn-limit-requires c κs = search needs
 
 loop-holds : tie.Need-loop-holds Inv-loop μ-loop
-loop-holds c = record { memory-long = refl; io-long = refl; reached = begun unitTurns _ _ }
+loop-holds c = record { memory-long = refl; io-long = refl; first = λ e o. refl; reached = begun (unitTurns (c .before .before .before .before .before .before .args .both)) _ _ }
 
-carry-requires : tie.Need-carry-requires Inv-loop μ-loop
-carry-requires c κs = search needs
+move-on-requires : tie.Need-move-on-requires Inv-loop μ-loop
+move-on-requires c κs = search needs
 
 add-units : tie.Need-add-units Inv-loop μ-loop
 add-units c =
-    let l = c .before .before .before .before .before .before .before .before .loop in
-    omega (arith, on-yet unitTurns _ _ _ _ _ (l .going) (c .before .before .before .before .before .before .before .loop-test .taken) (l .inv .reached) .0)
+    let l = c .before .before .before .before .before .before .before .before .before .before .loop in
+    let k = c .before .before .before .before .before .before .move-on in
+    let t : Turn (c .before .before .before .before .before .before .before .before .before .before .before .before .before .before .before .before .before .args .both) (c .before .before .before .before .before .before .before .before .before .before .before .before .before .before .before .before .before .args .limit) _ _ (l .next) (spaces (l .memory) (l .io)) (spaces (k .last .1 .1 .0) (k .last .1 .1 .1 .0)) _ (k .result .moved) (l .units) (k .result .units) (l .going) =
+    record { limited = c .before .before .before .before .before .before .before .before .before .before .before .before .before .before .turn-limit .ensures; going = c .before .before .before .before .before .before .before .before .before .loop-test .taken; first = l .inv .first; reached = l .inv .reached; moved = k .ensures } in
+    omega (arith, counts _ t, c .before .before .before .before .before .before .before .before .before .before .before .before .before .before .before .before .before .fits .limit)
+
+pass-requires : tie.Need-pass-requires Inv-loop μ-loop
+pass-requires c κs = search needs
 
 follows-requires : tie.Need-follows-requires Inv-loop μ-loop
 follows-requires c κs = search needs
 
-onward-requires : tie.Need-onward-requires Inv-loop μ-loop
-onward-requires c κs = search needs
-
 loop-less : tie.Need-loop-less Inv-loop μ-loop
 loop-less c =
-    let l = c .before .before .before .before .before .before .before .before .before .before .loop in
-    let on = c .before .before .before .before .before .before .before .before .before .loop-test .taken in
-    fewer-left (l .going) (ltb (l .units + 1) (c .before .before .before .before .before .before .before .before .before .before .before .before .before .before .before .args .limit) && c .before .follows .result) _ (l .units) on (on-yet unitTurns _ _ _ _ _ (l .going) on (l .inv .reached) .0)
+    let l = c .before .before .before .before .before .before .before .before .before .before .before .before .before .loop in
+    let k = c .before .before .before .before .before .before .before .before .before .move-on in
+    let t : Turn (c .before .before .before .before .before .before .before .before .before .before .before .before .before .before .before .before .before .before .before .before .args .both) (c .before .before .before .before .before .before .before .before .before .before .before .before .before .before .before .before .before .before .before .before .args .limit) _ _ (l .next) (spaces (l .memory) (l .io)) (spaces (k .last .1 .1 .0) (k .last .1 .1 .1 .0)) _ (k .result .moved) (l .units) (k .result .units) (l .going) =
+    record { limited = c .before .before .before .before .before .before .before .before .before .before .before .before .before .before .before .before .before .turn-limit .ensures; going = c .before .before .before .before .before .before .before .before .before .before .before .before .loop-test .taken; first = l .inv .first; reached = l .inv .reached; moved = k .ensures } in
+    less-two _ (c .follows .result) (c .before .before .if1 .taken) t
 
 loop-again : tie.Need-loop-again Inv-loop μ-loop
 loop-again c =
-    let l = c .before .before .before .before .before .before .before .before .before .before .loop in
-    let r = on-yet unitTurns _ _ _ _ _ (l .going) (c .before .before .before .before .before .before .before .before .before .loop-test .taken) (l .inv .reached) in
-    let k = c .before .before .before .before .before .before .carry in
+    let l = c .before .before .before .before .before .before .before .before .before .before .before .before .before .loop in
+    let k = c .before .before .before .before .before .before .before .before .before .move-on in
+    let t : Turn (c .before .before .before .before .before .before .before .before .before .before .before .before .before .before .before .before .before .before .before .before .args .both) (c .before .before .before .before .before .before .before .before .before .before .before .before .before .before .before .before .before .before .before .before .args .limit) _ _ (l .next) (spaces (l .memory) (l .io)) (spaces (k .last .1 .1 .0) (k .last .1 .1 .1 .0)) _ (k .result .moved) (l .units) (k .result .units) (l .going) =
+    record { limited = c .before .before .before .before .before .before .before .before .before .before .before .before .before .before .before .before .before .turn-limit .ensures; going = c .before .before .before .before .before .before .before .before .before .before .before .before .loop-test .taken; first = l .inv .first; reached = l .inv .reached; moved = k .ensures } in
     record {
-      memory-long = k .kept .1 .0 ∙ l .inv .memory-long;
-      io-long = k .kept .1 .1 .0 ∙ l .inv .io-long;
-      reached = turn unitTurns _ _ _ _ _ (r .0) (r .1) (k .ensures) _ _ (c .before .follows .ensures) (λ j. record { work = c .onward .ensures j; spaces = spaces (k .last .1 .0) (k .last .1 .1 .0) });
+      memory-long = k .kept .1 .1 .0 ∙ l .inv .memory-long;
+      io-long = k .kept .1 .1 .1 .0 ∙ l .inv .io-long;
+      first = λ e o. absurd (true≢false (sym (c .before .before .if1 .taken) ∙ e));
+      reached = turned-two _ (c .follows .result) (c .before .pass .result) (c .before .before .if1 .taken) (c .before .pass .ensures) (c .follows .ensures) t;
+    }
+
+loop-less-2 : tie.Need-loop-less-2 Inv-loop μ-loop
+loop-less-2 c =
+    let l = c .before .before .before .before .before .before .before .before .before .before .before .loop in
+    let k = c .before .before .before .before .before .before .before .move-on in
+    let t : Turn (c .before .before .before .before .before .before .before .before .before .before .before .before .before .before .before .before .before .before .args .both) (c .before .before .before .before .before .before .before .before .before .before .before .before .before .before .before .before .before .before .args .limit) _ _ (l .next) (spaces (l .memory) (l .io)) (spaces (k .last .1 .1 .0) (k .last .1 .1 .1 .0)) _ (k .result .moved) (l .units) (k .result .units) (l .going) =
+    record { limited = c .before .before .before .before .before .before .before .before .before .before .before .before .before .before .before .turn-limit .ensures; going = c .before .before .before .before .before .before .before .before .before .before .loop-test .taken; first = l .inv .first; reached = l .inv .reached; moved = k .ensures } in
+    less-one _ (c .if1 .left) t
+
+loop-again-2 : tie.Need-loop-again-2 Inv-loop μ-loop
+loop-again-2 c =
+    let l = c .before .before .before .before .before .before .before .before .before .before .before .loop in
+    let k = c .before .before .before .before .before .before .before .move-on in
+    let t : Turn (c .before .before .before .before .before .before .before .before .before .before .before .before .before .before .before .before .before .before .args .both) (c .before .before .before .before .before .before .before .before .before .before .before .before .before .before .before .before .before .before .args .limit) _ _ (l .next) (spaces (l .memory) (l .io)) (spaces (k .last .1 .1 .0) (k .last .1 .1 .1 .0)) _ (k .result .moved) (l .units) (k .result .units) (l .going) =
+    record { limited = c .before .before .before .before .before .before .before .before .before .before .before .before .before .before .before .turn-limit .ensures; going = c .before .before .before .before .before .before .before .before .before .before .loop-test .taken; first = l .inv .first; reached = l .inv .reached; moved = k .ensures } in
+    record {
+      memory-long = k .kept .1 .1 .0 ∙ l .inv .memory-long;
+      io-long = k .kept .1 .1 .1 .0 ∙ l .inv .io-long;
+      first = λ e o. absurd (true≢false (sym o));
+      reached = done-one _ (c .if1 .left) t;
     }
 
 same-length : tie.Need-same-length Inv-loop μ-loop
-same-length c = c .before .loop .inv .memory-long
+same-length c = c .before .before .loop .inv .memory-long
 
 same-length-2 : tie.Need-same-length-2 Inv-loop μ-loop
-same-length-2 c = c .before .loop .inv .io-long
+same-length-2 c = c .before .before .loop .inv .io-long
 
 returns : tie.Need-returns Inv-loop μ-loop
-returns c = let l = c .before .loop in all-done unitTurns _ _ _ _ _ (l .going) (c .loop-test .left) (l .inv .reached)
+returns c = let l = c .before .before .loop in all-done (unitTurns (c .before .before .before .before .before .before .before .before .before .args .both)) _ _ _ _ _ (l .going) (c .before .loop-test .left) (l .inv .reached)
 
 pub carry-on-spec : {M : Type 1} → statement M
 carry-on-spec =
@@ -66,13 +96,16 @@ carry-on-spec =
     (tie.spec
     Inv-loop
     μ-loop
+    turn-limit-requires
     loop-holds
-    carry-requires
+    move-on-requires
     add-units
+    pass-requires
     follows-requires
-    onward-requires
     loop-less
     loop-again
+    loop-less-2
+    loop-again-2
     same-length
     same-length-2
     returns)
