@@ -15,7 +15,8 @@ use Rattle.acknowledging.specs.declared.Acknowledged.{Acknowledged}
 use Rattle.udc.specs.Lines.{freshOf, linedAt}
 use Rattle.acknowledging.specs.Acknowledge.{acknowledgeOf}
 use Rattle.running.specs.Run.{RunOutcome, runOf}
-use Rattle.words.specs.Words.{stateOf, wordsOf}
+use Rattle.words.specs.Words.{wordsOf}
+use Rattle.state.specs.State.{stateOf}
 use Rattle.numbers.specs.Numbers.{stepNumber, writeNumber, lineNumber, ackNumber}
 
 -- The answer's number, and the words.
