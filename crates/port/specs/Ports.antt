@@ -62,7 +62,7 @@ readPort pointer = look Nowhere pointer readable
 unfoldable pub writePort : ℕ → Port
 writePort pointer = look Nowhere pointer writable
 
--- IP may be named at the other channel's port: refusal 4
+-- whether k is the other channel than w
 abbrev pub isOther : Which → Which → Bool
 isOther One One = false
 isOther One Two = true
