@@ -62,7 +62,7 @@ readPort pointer = look Nowhere pointer readable
 unfoldable pub writePort : ℕ → Port
 writePort pointer = look Nowhere pointer writable
 
--- whether k is the other channel than w
+-- whether the second is the other channel
 abbrev pub isOther : Which → Which → Bool
 isOther One One = false
 isOther One Two = true
