@@ -1,2 +1,3 @@
 pub mod Acknowledge
 pub mod Answers
+pub mod Laws

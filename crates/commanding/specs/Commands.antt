@@ -1,11 +1,10 @@
 -- Document 01, "Registers": what the commands of Figure 18 do, and refusals 2 to 5 in their order. Assumes nothing.
 use Prim.Native.Nat.{ℕ}
-use mathlib.Core.Bool.{Bool, true, false, cond, _&&_, _||_}
+use mathlib.Core.Bool.{Bool, true, false, cond, _&&_}
 use Rattle.port.specs.declared.Which.{Which}
 use Rattle.mode.specs.Mode.{withFlip, withMask, withRequest}
-use Rattle.channel.specs.declared.Channel.{Channel}
-use Rattle.channel.specs.Set.{_⟨mode≔_⟩, _⟨interrupt≔_⟩, _⟨cie≔_⟩, _⟨ip≔_⟩, _⟨status≔_⟩, _⟨nac≔_⟩, _⟨pending≔_⟩}
-use Rattle.channel.specs.Ending.{withIp}
+use Rattle.channel.specs.Set.{_⟨mode≔_⟩}
+use Rattle.effects.specs.Effects.{cieBy, ipBy, chainStarted, cannotChain}
 use Rattle.command.specs.declared.Command.{Command}
 use Rattle.command.specs.declared.Command.the-variants.{Reset, Interrupts, SoftwareRequest, Flip, HardwareMask, StartChain, Unknown}
 use Rattle.control.specs.declared.Chain.{Chain}
@@ -13,7 +12,8 @@ use Rattle.control.specs.declared.Chain.the-variants.{NoChain, Of}
 use Rattle.control.specs.declared.Bus.{Bus}
 use Rattle.control.specs.declared.Bus.the-variants.{Free, Kept}
 use Rattle.controller.specs.declared.Controller.{Controller}
-use Rattle.controller.specs.Controller.{at, with, resetOf}
+use Rattle.controller.specs.Controller.{at, with}
+use Rattle.udc.specs.Reset.{resetOf}
 use Rattle.commanding.specs.declared.Written.{Written}
 use Rattle.commanding.specs.declared.Writing.the-variants.{Refused, Taken}
 use Rattle.port.specs.Ports.{isOther}
@@ -37,23 +37,6 @@ isBusy u = busyBy (u .control .bus) (u .control .chain)
 abbrev pub unlessBusy : Bool → Controller → Written → Written
 unlessBusy true u r = refuses 2 u
 unlessBusy false u r = r
-
--- CIE, if it is named; IP, if it is named: setting IP loads the save register, clearing IP does not change SIP.
-abbrev pub cieBy : Bool → Bool → Channel → Channel
-cieBy true set c = c ⟨interrupt≔ c .interrupt ⟨cie≔ set ⟩ ⟩
-cieBy false set c = c
-
-abbrev pub ipBy : Bool → Bool → Which → Channel → Channel
-ipBy true true w c = withIp w c
-ipBy true false w c = c ⟨interrupt≔ c .interrupt ⟨ip≔ false ⟩ ⟩
-ipBy false set w c = c
-
--- Start Chain clears NAC and leaves a chain pending.
-abbrev pub chainStarted : Channel → Channel
-chainStarted c = c ⟨status≔ c .status ⟨nac≔ false ⟩ ⟩ ⟨pending≔ true ⟩
-
-abbrev pub cannotChain : Channel → Bool
-cannotChain c = c .status .ca || c .interrupt .sip
 
 -- 3: command kind 6 or 7. 4: IP named at the other channel's port. 5: Start Chain with CA or SIP set.
 abbrev pub carriedOut : Command → Which → Controller → Written

@@ -2,8 +2,7 @@
 ghost use mathlib.Core.Path.{_≡_};
 ghost use Rattle.channel.specs.Set.{_⟨mode≔_⟩};
 ghost use Rattle.controller.specs.Controller.{at, with};
-ghost use Rattle.commanding.specs.Commands.{cieBy, ipBy, chainStarted, cannotChain, refuses, takes, isBusy, carriedOut, isReset, commanded};
-use channel::Channel;
+ghost use Rattle.commanding.specs.Commands.{refuses, takes, isBusy, carriedOut, isReset, commanded};
 use command::Command;
 use control::Bus;
 use control::Chain;
@@ -19,42 +18,6 @@ pub enum Writing {
 pub struct Written {
     pub state: Controller,
     pub answer: Writing,
-}
-
-fn with_cie(named: bool, set: bool, mut c: Channel) -> Channel
-    ensures { λ r. ⌜ r ≡ cieBy named set c ⌝ }
-{
-    if named {
-        c.interrupt.cie = set;
-    }
-    c
-}
-
-fn with_ip(named: bool, set: bool, w: Which, mut c: Channel) -> Channel
-    ensures { λ r. ⌜ r ≡ ipBy named set w c ⌝ }
-{
-    if named {
-        if set {
-            return c.with_ip(w);
-        }
-        c.interrupt.ip = false;
-        return c;
-    }
-    c
-}
-
-fn start_chain(mut c: Channel) -> Channel
-    ensures { λ r. ⌜ r ≡ chainStarted c ⌝ }
-{
-    c.status.nac = false;
-    c.pending = true;
-    c
-}
-
-fn can_not_chain(c: Channel) -> bool
-    ensures { λ r. ⌜ r ≡ cannotChain c ⌝ }
-{
-    c.status.ca | c.interrupt.sip
 }
 
 pub fn is_busy(u: Controller) -> bool
@@ -96,17 +59,20 @@ fn set_interrupts(k: Which, set: bool, e: bool, p: bool, w: Which, u: Controller
     if p & port::is_other(w, k) {
         return refuse(4, u);
     }
-    take(u.with_channel(k, with_ip(p, set, k, with_cie(e, set, u.channel(k)))))
+    take(u.with_channel(
+        k,
+        effects::with_ip(p, set, k, effects::with_cie(e, set, u.channel(k))),
+    ))
 }
 
 fn start(k: Which, w: Which, u: Controller) -> Written
     ensures { λ r. ⌜ r ≡ carriedOut (Command.StartChain k) w u ⌝ }
 {
     let c = u.channel(k);
-    if can_not_chain(c) {
+    if effects::can_not_chain(c) {
         return refuse(5, u);
     }
-    take(u.with_channel(k, start_chain(c)))
+    take(u.with_channel(k, effects::start_chain(c)))
 }
 
 // Software request, flip and hardware mask: the mode with one bit anew.
@@ -122,7 +88,7 @@ fn carry_out(x: Command, w: Which, u: Controller) -> Written
     ensures { λ r. ⌜ r ≡ carriedOut x w u ⌝ }
 {
     match x {
-        Command::Reset => take(u.reset()),
+        Command::Reset => take(udc::reset(u)),
         Command::Interrupts {
             channel,
             set,

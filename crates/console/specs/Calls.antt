@@ -1,10 +1,10 @@
 -- What each host call that a line names leaves, by the model's own definitions. Assumes nothing.
 use Rattle.space.specs.Space.{Spaces}
 use Rattle.controller.specs.declared.Controller.{Controller}
-use Rattle.controller.specs.Controller.{resetOf}
 use Rattle.controller.specs.Step.{stepOf}
 use Rattle.pointer.specs.Pointer.{pointed}
 use Rattle.writing.specs.Writing.{writeOf}
+use Rattle.udc.specs.Reset.{resetOf}
 use Rattle.udc.specs.Lines.{linedAt}
 use Rattle.acknowledging.specs.Acknowledge.{acknowledgeOf}
 use Rattle.running.specs.Run.{runOf}

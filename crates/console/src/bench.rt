@@ -3,7 +3,8 @@ ghost use Prim.Native.Nat.{_≤_, _-_};
 ghost use mathlib.Core.Path.{_≡_};
 ghost use Rattle.space.specs.Space.{spaces};
 ghost use Rattle.writing.specs.Writing.{writeOf};
-ghost use Rattle.udc.specs.Lines.{freshOf, linedAt};
+ghost use Rattle.udc.specs.Reset.{freshOf};
+ghost use Rattle.udc.specs.Lines.{linedAt};
 ghost use Rattle.acknowledging.specs.Acknowledge.{acknowledgeOf};
 ghost use Rattle.console.specs.Calls.{callOf, leaves, advanceOf};
 use crate::print;
@@ -120,7 +121,7 @@ fn make(call: Call, u: Controller) -> Controller
     match call {
         Call::Reset => {
             print::line(phrases::reset());
-            u.reset()
+            udc::reset(u)
         }
         Call::WritePointer(w) => {
             let next = pointer::write_pointer(u, w);

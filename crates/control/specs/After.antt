@@ -31,6 +31,10 @@ unendedControl DemandInterleave cpu w k = record { chain = k .chain; bus = Free;
 abbrev pub endedControl : Bool → Which → Control → Control
 endedControl chains w k = record { chain = chainAfter chains w (k .chain); bus = Free; note = k .note; served = Last w }
 
+-- EOP while holding ends the operation without a unit: served last stays.
+abbrev pub heldControl : Bool → Which → Control → Control
+heldControl chains w k = record { chain = chainAfter chains w (k .chain); bus = Free; note = k .note; served = k .served }
+
 abbrev pub controlBy : Bool → RequestMode → Bool → Bool → Which → Control → Control
 controlBy true m cpu chains w k = endedControl chains w k
 controlBy false m cpu chains w k = unendedControl m cpu w k
@@ -41,6 +45,10 @@ controlFetched (More p) cpu active w k = k ⟨chain≔ Of w (Entries p) ⟩
 controlFetched Complete true active w k = k ⟨chain≔ NoChain ⟩ ⟨note≔ true ⟩
 controlFetched Complete false true w k = k ⟨chain≔ NoChain ⟩ ⟨bus≔ Kept w ⟩
 controlFetched Complete false false w k = k ⟨chain≔ NoChain ⟩
+
+-- EOP with a fetch: the chain is dropped.
+abbrev pub droppedControl : Control → Control
+droppedControl k = k ⟨chain≔ NoChain ⟩
 
 -- A give-back note: clear it. Any other mode than demand hold gives the bus back.
 abbrev pub backControl : Back → Control → Control

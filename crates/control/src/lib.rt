@@ -1,6 +1,6 @@
 // What belongs to no channel: who has the bus, which chain is under way, who was served last.
 ghost use mathlib.Core.Path.{_≡_};
-ghost use Rattle.control.specs.After.{chainAfter, unendedControl, endedControl, controlFetched, backControl};
+ghost use Rattle.control.specs.After.{chainAfter, unendedControl, heldControl, droppedControl, endedControl, heldControl, droppedControl, controlFetched, backControl};
 use mode::RequestMode;
 use port::Which;
 use reload::Next;
@@ -33,7 +33,7 @@ pub enum Back {
     Bus,
 }
 
-pub fn chain_after(chains: bool, w: Which, chain: Chain) -> Chain
+fn chain_after(chains: bool, w: Which, chain: Chain) -> Chain
     ensures { λ r. ⌜ r ≡ chainAfter chains w chain ⌝ }
 {
     if chains {
@@ -85,6 +85,34 @@ pub fn ended_control(chains: bool, w: Which, k: Control) -> Control
         bus: Bus::Free,
         note: k.note,
         served: Served::Last(w),
+    }
+}
+
+// EOP while holding ends the operation without a unit.
+pub fn held_control(chains: bool, w: Which, k: Control) -> Control
+    ensures { λ r. ⌜ r ≡ heldControl chains w k ⌝ }
+{
+    let chain = k.chain;
+    let served = k.served;
+    Control {
+        chain: chain_after(chains, w, chain),
+        bus: Bus::Free,
+        note: k.note,
+        served,
+    }
+}
+
+// EOP with a fetch drops the chain.
+pub fn dropped_control(k: Control) -> Control
+    ensures { λ r. ⌜ r ≡ droppedControl k ⌝ }
+{
+    let bus = k.bus;
+    let served = k.served;
+    Control {
+        chain: Chain::NoChain,
+        bus,
+        note: k.note,
+        served,
     }
 }
 

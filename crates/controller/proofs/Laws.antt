@@ -45,7 +45,7 @@ use Rattle.controller.specs.Fetching.{fetchedBy, fetchOf}
 use Rattle.controller.specs.Step.{outcome, says, workOf, goneOn, endedAfter, unitOf, eopAlone, holdOf}
 use Rattle.controller.specs.Stride.{once, takeTurns, pairOf, rested, unitsBy, fetchesBy, strideBy}
 use Rattle.controller.specs.StrideLaws.{unrested}
-use Rattle.control.specs.After.{chainAfter, unendedControl, controlBy, controlFetched}
+use Rattle.control.specs.After.{unendedControl, heldControl, droppedControl, controlBy, controlFetched}
 
 -- ---- a candidate
 
@@ -58,8 +58,8 @@ module _ (u : Controller) (x y a b : Bool) (t : Turn) (ex : x ≡ interleaves (u
   pub nobodys : t ≡ Nobodys → Idle ≡ candidate u
   nobodys e = sym (by-turn e)
 
-  pub whose : (w : Which) (r : Choice) → t ≡ Whose w → r ≡ begins w (at w u) → r ≡ candidate u
-  whose w r e er = er ∙ sym (by-turn e)
+  pub whose : (w : Which) (r : Choice) (c : Channel) → t ≡ Whose w → c ≡ at w u → r ≡ begins w c → r ≡ candidate u
+  whose w r c e ec er = er ∙ ap (begins w) ec ∙ sym (by-turn e)
 
 -- ---- the rules
 
@@ -86,9 +86,9 @@ module _ (u : Controller) where
   pub rule-3 : u .control .chain ≡ NoChain → u .control .note ≡ true → GiveBack ≡ choiceBy true (u .control .chain) (u .control .note) (u .control .bus) u
   rule-3 p n = sym (by p n refl)
 
-  pub rule-4 : (r : Choice) (w : Which) → u .control .chain ≡ NoChain → u .control .note ≡ false → u .control .bus ≡ Kept w → r ≡ keeper w (at w u)
+  pub rule-4 : (r : Choice) (w : Which) (c : Channel) → u .control .chain ≡ NoChain → u .control .note ≡ false → u .control .bus ≡ Kept w → c ≡ at w u → r ≡ keeper w c
       → r ≡ choiceBy true (u .control .chain) (u .control .note) (u .control .bus) u
-  rule-4 r w p n b er = er ∙ sym (by p n b)
+  rule-4 r w c p n b ec er = er ∙ ap (keeper w) ec ∙ sym (by p n b)
 
   pub rule-5 : (r : Choice) → u .control .chain ≡ NoChain → u .control .note ≡ false → u .control .bus ≡ Free → r ≡ candidate u
       → r ≡ choiceBy true (u .control .chain) (u .control .note) (u .control .bus) u
@@ -97,10 +97,10 @@ module _ (u : Controller) where
 -- ---- what a step does
 
 module _ (w : Which) (eop : Bool) (u : Controller) (c : Channel) (s : Controller) (ec : c ≡ at w u) where
-  pub drops : (stage : Stage) (left : ℕ) (m : List ℕ) (d : Channel) → eop ≡ true → d ≡ droppedOf c → s ≡ with w d (u ⟨control≔ u .control ⟨chain≔ NoChain ⟩ ⟩)
+  pub drops : (stage : Stage) (left : ℕ) (m : List ℕ) (d : Channel) (k : Control) → eop ≡ true → d ≡ droppedOf c → k ≡ droppedControl (u .control) → s ≡ with w d (u ⟨control≔ k ⟩)
       → once (says s (answer.Dropped w)) ≡ fetchesBy eop w stage left u m
   unfolding fetchOf
-  drops stage left m d e ed es = rw (es, ed, ec, e)
+  drops stage left m d k e ed ek es = rw (es, ek, ed, ec, e)
 
   pub fetches : (stage : Stage) (left : ℕ) (m : List ℕ) (x : Fetched) (active cpu : Bool) (k : Control) → eop ≡ false
       → fetchedAs x ≡ fetchesOf m (left - 1) 0 stage c → active ≡ requests (x .channel .mode) (x .channel .line) → cpu ≡ isInterleaved (u .master)
@@ -113,11 +113,10 @@ module _ (w : Which) (eop : Bool) (u : Controller) (c : Channel) (s : Controller
       ∙ (λ i. record { state = fetchedBy w (row i .last) u .state; answer = answer.Fetched w; steps = row i .count })
       ∙ sym (λ i. fetchesBy (e i) w stage left u m)
 
-  pub ends-held : (e : Ended) (chain : Chain) → eop ≡ true → e ≡ endOf w eopAlone c → chain ≡ chainAfter (e .chains) w (u .control .chain)
-      → s ≡ with w (e .channel) (u ⟨control≔ record { chain = chain; bus = Free; note = u .control .note; served = u .control .served } ⟩)
+  pub ends-held : (e : Ended) (k : Control) → eop ≡ true → e ≡ endOf w eopAlone c → k ≡ heldControl (e .chains) w (u .control) → s ≡ with w (e .channel) (u ⟨control≔ k ⟩)
       → says s (answer.Ended w) ≡ holdOf w eop u
   unfolding holdOf
-  ends-held e chain on ee eh es = rw (es, eh, ee, ec, on)
+  ends-held e k on ee ek es = rw (es, ek, ee, ec, on)
 
 pub gone-on : (w v : Which) (u : Controller) (m : Moved) (c : Channel) (k : Control) (r : RequestMode) (cpu : Bool) → w ≡ v → r ≡ requestModeOf (at w u .mode)
     → cpu ≡ isInterleaved (u .master) → k ≡ unendedControl r cpu w (u .control) → c ≡ unended (movedBy m (at v u)) → with v c (u ⟨control≔ k ⟩) ≡ goneOn w u m

@@ -18,7 +18,7 @@ use Rattle.controller.specs.declared.Stepped.{Stepped}
 use Rattle.controller.specs.declared.Answer.the-variants.{Fetched, Dropped}
 use Rattle.controller.specs.Set.{_⟨control≔_⟩}
 use Rattle.control.specs.Set.{_⟨chain≔_⟩}
-use Rattle.control.specs.After.{controlFetched}
+use Rattle.control.specs.After.{controlFetched, droppedControl}
 use Rattle.controller.specs.Controller.{at, with}
 use Rattle.rules.specs.Rules.{isInterleaved}
 
@@ -31,5 +31,5 @@ fetchedBy w l u = record {
 
 -- One word a step; chaining reads memory.
 unfoldable pub fetchOf : Which → Stage → Bool → Controller → List ℕ → Stepped
-fetchOf w stage true u m = record { state = with w (droppedOf (at w u)) (u ⟨control≔ u .control ⟨chain≔ NoChain ⟩ ⟩); answer = Dropped w }
+fetchOf w stage true u m = record { state = with w (droppedOf (at w u)) (u ⟨control≔ droppedControl (u .control) ⟩); answer = Dropped w }
 fetchOf w stage false u m = fetchedBy w (fetchedOf stage (valueIn Word m (number (at w u .chain))) (at w u)) u

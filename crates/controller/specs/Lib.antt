@@ -4,7 +4,6 @@ pub mod Choice
 pub mod Fetching
 pub mod Step
 pub mod Answers
-pub mod StepLaws
 pub mod Stride
 pub mod StrideLaws
 pub mod PairLaws

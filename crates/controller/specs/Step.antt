@@ -27,7 +27,7 @@ use Rattle.control.specs.declared.Back.the-variants.{Note, Bus}
 use Rattle.controller.specs.declared.Answer.{Answer}
 use Rattle.controller.specs.declared.Answer.the-variants as answer
 use Rattle.controller.specs.Set.{_⟨control≔_⟩}
-use Rattle.control.specs.After.{chainAfter, unendedControl, endedControl, controlBy, backControl}
+use Rattle.control.specs.After.{unendedControl, endedControl, heldControl, controlBy, backControl}
 use Rattle.controller.specs.Controller.{at, with}
 use Rattle.controller.specs.Choice.{choice}
 use Rattle.rules.specs.Rules.{isInterleaved}
@@ -85,7 +85,7 @@ eopAlone = record { tc = false; mc = false; eop = true }
 abbrev pub holdBy : Bool → Which → Controller → Ended → Stepped
 holdBy true w u e =
     says
-    (with w (e .channel) (u ⟨control≔ record { chain = chainAfter (e .chains) w (u .control .chain); bus = Free; note = u .control .note; served = u .control .served } ⟩))
+    (with w (e .channel) (u ⟨control≔ heldControl (e .chains) w (u .control) ⟩))
     (answer.Ended w)
 holdBy false w u e = says u (answer.Holding w)
 

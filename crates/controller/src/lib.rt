@@ -4,8 +4,7 @@ ghost use mathlib.Core.Bool.{true, cond};
 ghost use Rattle.space.specs.Space.{spaces};
 ghost use Rattle.port.specs.Ports.{other};
 ghost use Rattle.controller.specs.Set.{_⟨control≔_⟩};
-ghost use Rattle.controller.specs.Controller.{at, with, resetOf};
-ghost use Rattle.choosing.specs.Channels.{keeper, begins};
+ghost use Rattle.controller.specs.Controller.{at, with};
 ghost use Rattle.controller.specs.Choice.{candidate, choiceBy, choice};
 ghost use Rattle.mode.specs.Mode.{requestModeOf};
 ghost use Rattle.controller.specs.Step.{outcome, workOf, goneOn, endedAfter, unitOf, holdOf, backOf, stepOf};
@@ -22,7 +21,6 @@ use moving::Compared;
 use port::Which;
 use reload::Stage;
 use rules::Choice;
-use rules::Served;
 use rules::Turn;
 use unit::Moved;
 use unit::Work;
@@ -59,10 +57,6 @@ pub struct Strode {
     pub answer: Answer,
     pub steps: u32,
 }
-
-// ---- which step comes next
-
-// ---- what a step leaves of the controller's own state
 
 fn work_of(c: Channel) -> Work
     ensures { λ r. ⌜ r ≡ workOf c ⌝ }
@@ -115,32 +109,6 @@ impl Controller {
         self.with_channel(w, c)
     }
 
-    pub fn reset(self) -> Controller
-        ensures { λ r. ⌜ r ≡ resetOf self ⌝ }
-    {
-        Controller {
-            pointer: self.pointer,
-            master: 0,
-            control: Control {
-                chain: Chain::NoChain,
-                bus: Bus::Free,
-                note: false,
-                served: Served::Nobody,
-            },
-            one: self.one.reset(),
-            two: self.two.reset(),
-        }
-    }
-
-    fn begin(self, w: Which) -> Choice
-        ensures { λ r. ⌜ r ≡ begins w (at w self) ⌝ }
-    {
-        match w {
-            Which::One => choosing::begin_choice(Which::One, self.one),
-            Which::Two => choosing::begin_choice(Which::Two, self.two),
-        }
-    }
-
     fn candidate_choice(self) -> Choice
         ensures { λ r. ⌜ r ≡ candidate self ⌝ }
     {
@@ -155,16 +123,7 @@ impl Controller {
         );
         match turn {
             Turn::Nobodys => Choice::Idle,
-            Turn::Whose(w) => self.begin(w),
-        }
-    }
-
-    fn keeper(self, w: Which) -> Choice
-        ensures { λ r. ⌜ r ≡ keeper w (at w self) ⌝ }
-    {
-        match w {
-            Which::One => choosing::keeper_choice(Which::One, self.one),
-            Which::Two => choosing::keeper_choice(Which::Two, self.two),
+            Turn::Whose(w) => choosing::begin_choice(w, self.channel(w)),
         }
     }
 
@@ -182,7 +141,7 @@ impl Controller {
                 }
                 let bus = control.bus;
                 match bus {
-                    Bus::Kept(w) => self.keeper(w),
+                    Bus::Kept(w) => choosing::keeper_choice(w, self.channel(w)),
                     Bus::Free => self.candidate_choice(),
                 }
             }
@@ -206,16 +165,8 @@ impl Controller {
         let c = self.channel(w);
         let k = self.control;
         if eop {
-            let bus = k.bus;
-            let served = k.served;
-            let next = Control {
-                chain: Chain::NoChain,
-                bus,
-                note: k.note,
-                served,
-            };
             return Strode {
-                state: self.with_both(w, chain::drop_chain(c), next),
+                state: self.with_both(w, chain::drop_chain(c), control::dropped_control(k)),
                 answer: Answer::Dropped(w),
                 steps: 1,
             };
@@ -387,16 +338,8 @@ impl Controller {
             );
             let d = e.channel;
             let k = self.control;
-            let chain = k.chain;
-            let served = k.served;
-            let after = Control {
-                chain: control::chain_after(e.chains, w, chain),
-                bus: Bus::Free,
-                note: k.note,
-                served,
-            };
             return Strode {
-                state: self.with_both(w, d, after),
+                state: self.with_both(w, d, control::held_control(e.chains, w, k)),
                 answer: Answer::Ended(w),
                 steps: 1,
             };

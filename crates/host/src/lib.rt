@@ -19,7 +19,7 @@ pub extern "C" fn einflyga_reset(state: &mut [u16; 72])
 {
     let entry = *state;
     let u = state::load(entry);
-    *state = words::store(u.reset());
+    *state = words::store(udc::reset(u));
 }
 
 #[no_mangle]
@@ -119,5 +119,5 @@ pub extern "C" fn einflyga_run(
     let next = ran.state;
     let answer = ran.answer;
     *state = words::store(next);
-    ran.steps as u64 * 4294967296 + numbers::step_number(answer) as u64
+    numbers::run_number(ran.steps, answer)
 }

@@ -38,6 +38,10 @@ stepNumber (Dropped w) = packed 6 (channelNumber w)
 stepNumber (Unit w why) = packed 7 (unitHalf (channelNumber w) why)
 stepNumber (Ended w) = packed 8 (channelNumber w)
 
+-- The number of steps stands above the last answer's 32 bits.
+abbrev pub runNumber : ℕ → Answer → ℕ
+runNumber steps a = steps * 4294967296 + stepNumber a
+
 -- Bits 31-16 the register.
 abbrev pub readNumber : Reading → ℕ
 readNumber (reading.Refused n) = n

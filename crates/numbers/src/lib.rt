@@ -1,7 +1,7 @@
 // Each answer as one number, for a host in another language.
 ghost use mathlib.Core.Path.{_≡_};
 ghost use Rattle.controller.specs.Answers.{channelNumber};
-ghost use Rattle.numbers.specs.Numbers.{unitHalf, wordKind, stepNumber, readNumber, writeNumber, lineNumber, ackNumber, packed};
+ghost use Rattle.numbers.specs.Numbers.{unitHalf, wordKind, stepNumber, runNumber, readNumber, writeNumber, lineNumber, ackNumber, packed};
 use acknowledging::AckAnswer;
 use commanding::Writing;
 use control::Back;
@@ -54,6 +54,13 @@ pub fn step_number(a: Answer) -> u32
         Answer::Unit(w, why) => pack(7, unit_half(channel_number(w), why)),
         Answer::Ended(w) => pack(8, channel_number(w) as u16),
     }
+}
+
+// The number of steps stands above the last answer's 32 bits.
+pub fn run_number(steps: u32, a: Answer) -> u64
+    ensures { λ r. ⌜ r ≡ runNumber steps a ⌝ }
+{
+    steps as u64 * 4294967296 + step_number(a) as u64
 }
 
 pub fn read_number(a: Reading) -> u32

@@ -2,13 +2,12 @@
 use Prim.Native.Nat.{ℕ, _*_, _/_, _%_}
 use mathlib.Core.Bool.{Bool, true, false}
 use mathlib.Core.List.{List, [], _∷_}
-use Rattle.facts.specs.Look.{look}
 use Rattle.port.specs.declared.Which.{Which}
 use Rattle.port.specs.declared.Which.the-variants.{One, Two}
 use Rattle.port.specs.declared.Register.{Register}
-use Rattle.port.specs.declared.Register.the-variants.{CommandStatus, CurrentAUpper, CurrentALower, CurrentBUpper, CurrentBLower, BaseAUpper, BaseALower, BaseBUpper, BaseBLower, CurrentCount, BaseCount, Pattern, Mask, Save, Vector, ModeHigh, ModeLow, ChainUpper, ChainLower}
+use Rattle.port.specs.declared.Register.the-variants.{CommandStatus, CurrentAUpper, CurrentALower, CurrentBUpper, CurrentBLower, BaseAUpper, BaseALower, BaseBUpper, BaseBLower, CurrentCount, BaseCount, Pattern, Mask, Vector, ModeLow, ChainUpper, ChainLower}
 use Rattle.port.specs.declared.Port.{Port}
-use Rattle.port.specs.declared.Port.the-variants.{MasterMode, Of, Nowhere}
+use Rattle.port.specs.declared.Port.the-variants.{Of}
 
 -- The pointer keeps bits 1 to 6 of the word written; the rest read 0.
 abbrev pub keptPointer : ℕ → ℕ
@@ -37,30 +36,10 @@ registers =
     ∷ (0x22, 0x20, ChainLower)
     ∷ []
 
--- Read only: interrupt save and mode high.
-abbrev pub readOnly : List (ℕ × ℕ × Register)
-readOnly =
-    (0x2A, 0x28, Save)
-    ∷ (0x56, 0x54, ModeHigh)
-    ∷ []
-
 -- Each register at its two ports, before the further ones.
 abbrev pub both : List (ℕ × ℕ × Register) → List (ℕ × Port) → List (ℕ × Port)
 both [] more = more
 both (r ∷ rs) more = (r .0, Of One (r .2)) ∷ (r .1, Of Two (r .2)) ∷ both rs more
-
--- Master mode 38 (both).
-abbrev pub readable : List (ℕ × Port)
-readable = (0x38, MasterMode) ∷ both registers (both readOnly [])
-
-abbrev pub writable : List (ℕ × Port)
-writable = (0x38, MasterMode) ∷ both registers []
-
-unfoldable pub readPort : ℕ → Port
-readPort pointer = look Nowhere pointer readable
-
-unfoldable pub writePort : ℕ → Port
-writePort pointer = look Nowhere pointer writable
 
 -- whether the second is the other channel
 abbrev pub isOther : Which → Which → Bool

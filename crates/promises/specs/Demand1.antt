@@ -13,7 +13,8 @@ use Rattle.port.specs.declared.Which.the-variants.{One, Two}
 use Rattle.port.specs.declared.Register.{Register}
 use Rattle.port.specs.declared.Port.{Port}
 use Rattle.port.specs.declared.Port.the-variants.{MasterMode, Of, Nowhere}
-use Rattle.port.specs.Ports.{readPort, writePort}
+use Rattle.readable.specs.Readable.{readPort}
+use Rattle.writable.specs.Writable.{writePort}
 use Rattle.command.specs.declared.Command.{Command}
 use Rattle.command.specs.declared.Command.the-variants.{Reset, Interrupts, SoftwareRequest, Flip, HardwareMask, StartChain, Unknown}
 use Rattle.command.specs.Command.{commandOf}
@@ -44,7 +45,7 @@ use Rattle.controller.specs.declared.Answer.{Answer}
 use Rattle.controller.specs.declared.Answer.the-variants as answer
 use Rattle.controller.specs.Answers.{Paper, paper}
 use Rattle.controller.specs.Controller.{at}
-use Rattle.controller.specs.StepLaws.{refused-keeps}
+use Rattle.acknowledging.specs.Laws.{refused-keeps}
 use Rattle.choosing.specs.Channels.{keeper, begins, interleaves}
 use Rattle.controller.specs.Choice.{candidateBy, candidate, choiceBy, choice}
 use Rattle.rules.specs.Rules.{isEnabled, fetchBy, unitBy, keeperBy, beginBy, turnBy}
@@ -54,7 +55,8 @@ use Rattle.reading.specs.declared.Reading.{Reading}
 use Rattle.commanding.specs.declared.Written.{Written}
 use Rattle.reading.specs.Reading.{readBy, readOf}
 use Rattle.port.specs.Ports.{isOther}
-use Rattle.commanding.specs.Commands.{refuses, takes, isBusy, cannotChain, carriedOut, isReset, commandedBy, commanded}
+use Rattle.effects.specs.Effects.{cannotChain}
+use Rattle.commanding.specs.Commands.{refuses, takes, isBusy, carriedOut, isReset, commandedBy, commanded}
 use Rattle.writing.specs.Writing.{isCommand, storedBy, masterBy, writeBy, writeOf}
 use Rattle.reading.specs.Answers.{PaperRead, paperRead}
 use Rattle.commanding.specs.Answers.{paperWrite}
@@ -288,7 +290,7 @@ ack-number : (a b : Bool) (u : Controller)
 unfolding acknowledgedAt
 ack-number true b u = let e = answered-number (isVectorless (u .master)) One (at One u) in (e, λ h. absurd (h e))
 ack-number false true u = let e = answered-number (isVectorless (u .master)) Two (at Two u) in (e, λ h. absurd (h e))
-ack-number false false u = (refl, λ h. (refl, refl, refl))
+ack-number false false u = (refl, λ h. (refused-keeps u, refl, refl))
 
 pub acknowledge : (u : Controller) → Acknowledge u
 unfolding acknowledgeOf
@@ -432,7 +434,7 @@ rules-table true NoChain false Free u = turn-table (candidates u) u
 quiet-choice : (c : Choice) (eop : Bool) (u : Controller) (z : Spaces) → refusal c ≢ 0 → performOf c eop u z ≡ outcome (says u (answer.Refused (refusal c))) z
 unfolding performOf
 quiet-choice chosen.Disabled eop u z h = absurd (h refl)
-quiet-choice (chosen.Refused n) eop u z h = refused-keeps n eop u z
+quiet-choice (chosen.Refused n) eop u z h = refl
 quiet-choice (chosen.Fetch w s) eop u z h = absurd (h refl)
 quiet-choice chosen.GiveBack eop u z h = absurd (h refl)
 quiet-choice (chosen.Unit w) eop u z h = absurd (h refl)

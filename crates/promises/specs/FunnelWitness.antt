@@ -34,7 +34,7 @@ use Rattle.choosing.specs.Channels.{keeper, begins, interleaves}
 use Rattle.controller.specs.Choice.{candidate, choice}
 use Rattle.controller.specs.Step.{unitOf, performOf, stepOf}
 use Rattle.port.specs.declared.Which.the-variants.{One}
-use Rattle.udc.specs.Lines.{noChannel}
+use Rattle.udc.specs.Reset.{noChannel}
 use Rattle.promises.specs.Machine.{Machine, step}
 use Rattle.promises.specs.Paced.{line}
 use Rattle.promises.specs.Demand2c.{Ran, Splits, Merges, demand2c}

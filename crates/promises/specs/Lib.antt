@@ -1,5 +1,4 @@
 pub mod Points
-pub mod Decided
 pub mod Machine
 pub mod Demand1
 pub mod Running

@@ -18,7 +18,7 @@ use Rattle.unit.specs.declared.Moved.{Moved}
 use Rattle.unit.specs.Unit.{compared, steppedSet, movedOf}
 use Rattle.command.specs.Command.{commandOf}
 use Rattle.port.specs.declared.Which.the-variants.{One}
-use Rattle.port.specs.Ports.{writePort}
+use Rattle.writable.specs.Writable.{writePort}
 use Rattle.channel.specs.declared.Channel.{Channel}
 use Rattle.channel.specs.Set.{_⟨interrupt≔_⟩, _⟨cie≔_⟩}
 use Rattle.channel.specs.Ending.{withIp}

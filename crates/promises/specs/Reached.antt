@@ -10,12 +10,13 @@ use Rattle.control.specs.declared.Chain.the-variants.{NoChain, Of}
 use Rattle.control.specs.declared.Bus.{Bus}
 use Rattle.control.specs.declared.Bus.the-variants.{Free, Kept}
 use Rattle.controller.specs.declared.Controller.{Controller}
-use Rattle.controller.specs.Controller.{at, resetOf}
+use Rattle.controller.specs.Controller.{at}
 use Rattle.controller.specs.Step.{stepOf}
 use Rattle.rules.specs.Rules.{isEnabled}
 use Rattle.writing.specs.Writing.{writeOf}
 use Rattle.pointer.specs.Pointer.{pointed}
-use Rattle.udc.specs.Lines.{noChannel, freshOf, linedAt}
+use Rattle.udc.specs.Reset.{resetOf, noChannel, freshOf}
+use Rattle.udc.specs.Lines.{linedAt}
 use Rattle.acknowledging.specs.Acknowledge.{acknowledgeOf}
 use Rattle.running.specs.Run.{runOf}
 use Rattle.promises.specs.WellFormed.{Tidy, Owner, Keeper, Owned, WellFormed}

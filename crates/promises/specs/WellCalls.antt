@@ -10,7 +10,7 @@ use Rattle.port.specs.declared.Register.{Register}
 use Rattle.port.specs.declared.Which.the-variants.{One, Two}
 use Rattle.port.specs.declared.Port.{Port}
 use Rattle.port.specs.declared.Port.the-variants as port
-use Rattle.port.specs.Ports.{writePort}
+use Rattle.writable.specs.Writable.{writePort}
 use Rattle.command.specs.declared.Command.{Command}
 use Rattle.command.specs.declared.Command.the-variants.{Reset, Interrupts, SoftwareRequest, Flip, HardwareMask, StartChain, Unknown}
 use Rattle.command.specs.Command.{commandOf}
@@ -24,14 +24,16 @@ use Rattle.control.specs.declared.Bus.{Bus}
 use Rattle.control.specs.declared.Bus.the-variants.{Free, Kept}
 use Rattle.control.specs.declared.Control.{Control}
 use Rattle.controller.specs.declared.Controller.{Controller}
-use Rattle.controller.specs.Controller.{at, with, resetOf}
+use Rattle.controller.specs.Controller.{at, with}
 use Rattle.controller.specs.Set.{_⟨control≔_⟩, _⟨master≔_⟩}
 use Rattle.rules.specs.Rules.{isEnabled}
-use Rattle.commanding.specs.Commands.{cieBy, ipBy, chainStarted, cannotChain, refuses, takes, busyBy, isBusy, carriedOut, commandedBy, commanded}
+use Rattle.effects.specs.Effects.{cieBy, ipBy, chainStarted, cannotChain}
+use Rattle.commanding.specs.Commands.{refuses, takes, busyBy, isBusy, carriedOut, commandedBy, commanded}
 use Rattle.writing.specs.Writing.{registerWritten, isCommand, storedBy, masterBy, writeBy, writeOf}
 use Rattle.pointer.specs.Pointer.{pointed}
 use Rattle.port.specs.Ports.{isOther}
 use Rattle.udc.specs.declared.LineAnswer.the-variants.{Refused}
+use Rattle.udc.specs.Reset.{resetOf}
 use Rattle.udc.specs.Lines.{lined, linedBy, linedAt}
 use Rattle.acknowledging.specs.Acknowledge.{acknowledged, acknowledgedAt, acknowledgeBy, acknowledgeOf, interrupts}
 use Rattle.promises.specs.WellFormed.{Clear, Software, Sound, TidyHalf, Owner, Keeper, Owned, WellFormed}

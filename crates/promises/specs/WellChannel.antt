@@ -19,7 +19,7 @@ use Rattle.channel.specs.Set.{_⟨current≔_⟩, _⟨base≔_⟩, _⟨mode≔_
 use Rattle.loading.specs.Loading.{addressWith, withA, withB, withCount, loaded}
 use Rattle.channel.specs.Ending.{saved, withIp}
 use Rattle.channel.specs.Reset.{resetChannel}
-use Rattle.commanding.specs.Commands.{cieBy, ipBy, chainStarted, cannotChain}
+use Rattle.effects.specs.Effects.{cieBy, ipBy, chainStarted, cannotChain}
 use Rattle.writing.specs.Writing.{chainWritten, registerWritten}
 use Rattle.udc.specs.Lines.{lined}
 use Rattle.promises.specs.WellFormed.{TidyTag, TidyChain, TidySet, TidyMode, Tidy, Flags, SettledFlags, ClearFlags, Sound}

@@ -39,7 +39,7 @@ use Rattle.controller.specs.Choice.{candidate, choice}
 use Rattle.controller.specs.Step.{unitOf, performOf, stepOf}
 use Rattle.port.specs.declared.Which.{Which}
 use Rattle.port.specs.declared.Which.the-variants.{One, Two}
-use Rattle.udc.specs.Lines.{noRegister, noSet, noChannel}
+use Rattle.udc.specs.Reset.{noRegister, noSet, noChannel}
 use Rattle.promises.specs.Machine.{Machine, step, answer, next-choice, unit-reads, unit-writes}
 use Rattle.promises.specs.Own.{owns, Away}
 use Rattle.promises.specs.Demand2b.{seen, held, place, condition, At, Searched, demand2b}

@@ -6,7 +6,8 @@ use Rattle.port.specs.declared.Register.{Register}
 use Rattle.port.specs.declared.Register.the-variants.{CommandStatus, CurrentAUpper, CurrentALower, CurrentBUpper, CurrentBLower, BaseAUpper, BaseALower, BaseBUpper, BaseBLower, CurrentCount, BaseCount, Pattern, Mask, Save, Vector, ModeHigh, ModeLow, ChainUpper, ChainLower}
 use Rattle.port.specs.declared.Port.{Port}
 use Rattle.port.specs.declared.Port.the-variants.{MasterMode, Of, Nowhere}
-use Rattle.port.specs.Ports.{isOther, readPort}
+use Rattle.port.specs.Ports.{isOther}
+use Rattle.readable.specs.Readable.{readPort}
 use Rattle.status.specs.Status.{statusWord}
 use Rattle.channel.specs.declared.Channel.{Channel}
 use Rattle.channel.specs.Candidate.{isCandidate}

@@ -60,7 +60,7 @@ fn register_read(r: Register, wfb: bool, c: Channel) -> u16
 pub fn read(u: Controller) -> Reading
     ensures { λ r. ⌜ r ≡ readOf u ⌝ }
 {
-    let port = port::read_port(u.pointer);
+    let port = readable::read_port(u.pointer);
     match port {
         Port::MasterMode => Reading::Value(u.master),
         Port::Of(w, r) => Reading::Value(register_read(r, waits_for_bus(w, u), u.channel(w))),

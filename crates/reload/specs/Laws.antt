@@ -1,12 +1,15 @@
 -- What the definitions have to do with counts of bits, and with each other: tests that antt computes at each of the 1,024 values.
 -- Assumes nothing.
-use mathlib.Core.Path.{_≡_}
+use mathlib.Core.Path.{_≡_, sym, ap, ap₂, _∙_, subst}
 use mathlib.Core.Bool.{Bool}
-use Prim.Native.Nat.{ℕ, _+_, _-_, _/_, _%_, _^_, _≤_, _<_}
+use Prim.Native.Nat.{ℕ, zero, suc, _+_, _-_, _/_, _%_, _^_, _≤_, _<_}
 use native.Mathlib.Omega.{arith}
+use native.Mathlib.Numerals.{add-one}
 use lib.Dec.{T, eqb, eqb→eq, leb, leb→le}
-use lib.Bits.{bitAnd}
-use lib.Count.{leadingZeros, ones, onesIn}
+use lib.Arith.{lt-one}
+use lib.Bits.{bitAnd, and-le-l}
+use lib.Pow.{shr-lt}
+use lib.Count.{leadingZeros, ones, onesIn, ones-step}
 use Rattle.facts.specs.Below.{below, either, either-right}
 use Rattle.facts.specs.Look.{look}
 use Rattle.reload.specs.Reload.{above, nextOf, entries, entryOf, restOf, sizeOf, total, wordsOf}
@@ -25,12 +28,20 @@ pub next-le : (left : ℕ) → nextOf left ≤ 10
 unfolding low above nextOf
 next-le left = leb→le (above 10 (left % 1024)) 10 (below low 1024 tt (left % 1024) (omega arith))
 
+-- a number of d digits is counted in d of them
+digits : (d n : ℕ) → n < 2 ^ d → ones n ≡ onesIn d n
+unfolding ones onesIn
+digits zero n h = ap ones (lt-one h)
+digits (suc d) n h = ones-step n ∙ ap (λ (x : ℕ). n % 2 + x) (digits d (n / 2) (shr-lt d 1 (subst (λ (x : ℕ). n < 2 ^ x) (sym (add-one d)) h)))
+
 counts : ℕ → Bool
-counts n = eqb (ones n + ones (bitAnd n 875)) (total 10 entries n)
+counts n = eqb (onesIn 10 n + onesIn 10 (bitAnd n 875)) (total 10 entries n)
 
 pub counted : (n : ℕ) → n < 1024 → ones n + ones (bitAnd n 875) ≡ total 10 entries n
-unfolding counts ones onesIn
-counted n h = eqb→eq (ones n + ones (bitAnd n 875)) (total 10 entries n) (below counts 1024 tt n h)
+unfolding counts onesIn
+counted n h =
+    ap₂ (λ (x y : ℕ). x + y) (digits 10 n h) (digits 10 (bitAnd n 875) (omega (arith, h, and-le-l n 875)))
+    ∙ eqb→eq (onesIn 10 n + onesIn 10 (bitAnd n 875)) (total 10 entries n) (below counts 1024 tt n h)
 
 halves : ℕ → Bool
 halves e = eqb (511 / 2 ^ e) (2 ^ (9 - e) - 1)

@@ -1,2 +1,3 @@
+pub mod Reset
 pub mod Lines
 pub mod Answers

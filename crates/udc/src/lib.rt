@@ -1,6 +1,7 @@
-// A fresh controller, and its request lines.
+// Reset, a fresh controller, and the request lines.
 ghost use mathlib.Core.Path.{_≡_};
-ghost use Rattle.udc.specs.Lines.{noRegister, noSet, noChannel, freshOf, lined, linedBy, linedAt};
+ghost use Rattle.udc.specs.Reset.{resetOf, noRegister, noSet, noChannel, freshOf};
+ghost use Rattle.udc.specs.Lines.{lined, linedBy, linedAt};
 use channel::Channel;
 use channel::Interrupt;
 use channel::Status;
@@ -24,6 +25,25 @@ pub enum LineAnswer {
 pub struct Lined {
     pub state: Controller,
     pub answer: LineAnswer,
+}
+
+// ---- reset
+
+pub fn reset(u: Controller) -> Controller
+    ensures { λ r. ⌜ r ≡ resetOf u ⌝ }
+{
+    Controller {
+        pointer: u.pointer,
+        master: 0,
+        control: Control {
+            chain: Chain::NoChain,
+            bus: Bus::Free,
+            note: false,
+            served: Served::Nobody,
+        },
+        one: u.one.reset(),
+        two: u.two.reset(),
+    }
 }
 
 // ---- a fresh controller
@@ -96,7 +116,7 @@ pub fn fresh() -> Controller
         one: no_channel(),
         two: no_channel(),
     };
-    zeros.reset()
+    reset(zeros)
 }
 
 // ---- the request lines

@@ -6,7 +6,7 @@ use Rattle.port.specs.declared.Register.{Register}
 use Rattle.port.specs.declared.Register.the-variants.{CommandStatus, CurrentAUpper, CurrentALower, CurrentBUpper, CurrentBLower, BaseAUpper, BaseALower, BaseBUpper, BaseBLower, CurrentCount, BaseCount, Pattern, Mask, Save, Vector, ModeHigh, ModeLow, ChainUpper, ChainLower}
 use Rattle.port.specs.declared.Port.{Port}
 use Rattle.port.specs.declared.Port.the-variants.{MasterMode, Of, Nowhere}
-use Rattle.port.specs.Ports.{writePort}
+use Rattle.writable.specs.Writable.{writePort}
 use Rattle.reload.specs.declared.Entry.the-variants as entry
 use Rattle.channel.specs.declared.Channel.{Channel}
 use Rattle.channel.specs.Set.{_⟨status≔_⟩, _⟨ca≔_⟩}

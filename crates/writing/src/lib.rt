@@ -94,7 +94,7 @@ fn write_master(w: u16, mut u: Controller) -> Written
 pub fn write(w: u16, u: Controller) -> Written
     ensures { λ r. ⌜ r ≡ writeOf w u ⌝ }
 {
-    let port = port::write_port(u.pointer);
+    let port = writable::write_port(u.pointer);
     match port {
         Port::MasterMode => write_master(w, u),
         Port::Of(k, r) => write_register(k, r, w, u),

@@ -5,5 +5,5 @@ pub place-at-spec : {M : Type 1} → statement M
 place-at-spec =
     tie.close
     (tie.spec
-    (λ c. cc)
-    (λ c. cc))
+    (λ c. rw (c .if1 .taken))
+    (λ c. rw (c .if1 .left)))

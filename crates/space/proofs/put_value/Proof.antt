@@ -15,6 +15,6 @@ put-value-spec =
     (λ c. search needs)
     (λ c κs. search needs)
     (λ c. search needs)
-    (λ c. cc)
+    (λ c. rw (c .before .before .put-byte .ensures, c .before .before .before .before .enum-told .given .1))
     (λ c. search needs)
-    (λ c. cc))
+    (λ c. rw (c .before .before .put-byte3 .ensures, c .before .before .before .before .before .before .put-byte2 .ensures, c .before .before .before .before .before .before .before .before .enum-told2 .given .1)))

@@ -15,5 +15,5 @@ value-at-spec =
     (λ c κs. search needs)
     (λ c. search needs)
     (λ c. search needs)
-    (λ c. cc)
-    (λ c. cc))
+    (λ c. rw (c .before .before .byte-at .ensures, c .enum-told .given .1))
+    (λ c. rw (c .byte-at2 .ensures, c .before .before .before .byte-at .ensures, c .before .enum-told2 .given .1)))

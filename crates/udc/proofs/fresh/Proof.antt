@@ -1,5 +1,5 @@
 use borrow.Author.Needs.{needs}
-use Rattle.udc.specs.Lines.{freshOf}
+use Rattle.udc.specs.Reset.{freshOf}
 use Rattle.udc.proofs.fresh.Statement.{statement}
 use Rattle.udc.proofs.fresh.Tie as tie
 

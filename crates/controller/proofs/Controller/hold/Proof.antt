@@ -15,5 +15,5 @@ hold-spec =
     (λ c κs. search needs)
     (λ c κs. search needs)
     (λ c κs. search needs)
-    (λ c. let a = c .before .before .before .before .before .before .before .args in ap once (ends-held (a .w) (a .eop) (a .self) _ _ (c .before .before .before .before .before .channel .ensures) _ _ (c .before .before .before .before .before .before .if1 .taken) (c .before .before .before .before .end .ensures) (c .before .chain-after .ensures) (c .with-both .ensures)))
+    (λ c. let a = c .before .before .before .before .before .before .before .args in ap once (ends-held (a .w) (a .eop) (a .self) _ _ (c .before .before .before .before .before .channel .ensures) _ _ (c .before .before .before .before .before .before .if1 .taken) (c .before .before .before .before .end .ensures) (c .before .held-control .ensures) (c .with-both .ensures)))
     (λ c. rw (c .if1 .left)))

@@ -1,0 +1,1 @@
+// No code: that each call's contract leaves one outcome, in specs/.
