@@ -8,12 +8,12 @@ use Rattle.space.specs.declared.Width.the-variants.{Byte, Word}
 use Rattle.space.specs.declared.Direction.{Direction}
 use Rattle.space.specs.declared.Direction.the-variants.{Up, Down, Hold}
 use Rattle.space.specs.Space.{Spaces, placeAt, addressOf, written}
-use Rattle.space.specs.Stepping.{moved, steppedBy}
-use Rattle.moving.specs.Funnel.{joined, firstHalf, secondHalf}
-use Rattle.tag.specs.declared.Address.{Address}
-use Rattle.tag.specs.declared.Set.{Set}
+use Rattle.stepping.specs.Stepping.{moved, steppedBy}
+use Rattle.funnel.specs.Funnel.{joined, firstHalf, secondHalf}
+use Rattle.address.specs.declared.Address.{Address}
+use Rattle.address.specs.declared.Set.{Set}
 use Rattle.tag.specs.Tag.{isMemory, directionOf}
-use Rattle.tag.specs.Address.{number, withNumber, placeOf, steppedOn, sourceOf, destinationOf, orderOf}
+use Rattle.address.specs.Address.{number, withNumber, placeOf, steppedOn, sourceOf, destinationOf, orderOf}
 use Rattle.accesses.specs.declared.Got.{Got}
 use Rattle.accesses.specs.declared.Done.{Done}
 use Rattle.accesses.specs.Forms.{Put, rise, riseOf, strideIn, gotAt, putAs, putAt, doneWith, doneAs, transferred, bytesToWord, wordToBytes}

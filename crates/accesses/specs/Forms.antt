@@ -6,13 +6,13 @@ use Rattle.space.specs.declared.Width.the-variants.{Byte, Word}
 use Rattle.space.specs.declared.Direction.{Direction}
 use Rattle.space.specs.declared.Direction.the-variants.{Up, Down, Hold}
 use Rattle.space.specs.Space.{Spaces, placeAt, readAt, written}
-use Rattle.space.specs.Stepping.{stride}
-use Rattle.moving.specs.Count.{fewer}
-use Rattle.moving.specs.Funnel.{joined, firstHalf, secondHalf}
-use Rattle.tag.specs.declared.Address.{Address}
-use Rattle.tag.specs.declared.Set.{Set}
+use Rattle.stepping.specs.Stepping.{stride}
+use Rattle.counting.specs.Count.{fewer}
+use Rattle.funnel.specs.Funnel.{joined, firstHalf, secondHalf}
+use Rattle.address.specs.declared.Address.{Address}
+use Rattle.address.specs.declared.Set.{Set}
 use Rattle.tag.specs.Tag.{isMemory, directionOf}
-use Rattle.tag.specs.Address.{placeOf, steppedOn, sourceOf, destinationOf, orderOf}
+use Rattle.address.specs.Address.{placeOf, steppedOn, sourceOf, destinationOf, orderOf}
 use Rattle.operation.specs.declared.Operation.{Operation}
 use Rattle.operation.specs.Operation.{funnels, searches, widthOfA}
 use Rattle.accesses.specs.declared.Got.{Got}

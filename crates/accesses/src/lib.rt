@@ -1,12 +1,12 @@
 // The accesses of a unit: what it reads and writes, and the registers that step after each.
 ghost use mathlib.Core.Path.{_≡_};
 ghost use Rattle.space.specs.Space.{spaces};
-ghost use Rattle.tag.specs.Address.{number, steppedOn};
+ghost use Rattle.address.specs.Address.{number, steppedOn};
 ghost use Rattle.accesses.specs.Forms.{strideIn, riseOf, gotAt, putAs, putAt, doneWith, doneAs, transferred, searched, bytesToWord, wordToBytes, formed};
+use address::Address;
+use address::Set;
 use operation::Operation;
 use space::Width;
-use tag::Address;
-use tag::Set;
 
 // By how much an address steps: memory bytes by 1, words and all I/O by 2.
 fn stride_of(memory: bool, w: Width) -> u32
@@ -79,7 +79,7 @@ pub struct Done {
 fn finished(flip: bool, from: Address, to: Address, count: u16, datum: u16) -> Done
     ensures { λ r. ⌜ r ≡ doneWith flip from to count datum ⌝ }
 {
-    let next = moving::one_fewer(count);
+    let next = counting::one_fewer(count);
     if flip {
         Done {
             set: Set {
@@ -123,7 +123,7 @@ fn bytes_to_word(s: Set, memory: &mut [u8], io: &mut [u8]) -> Done
 {
     let first = read_on(s.a, Width::Byte, memory, io);
     let second = read_on(first.next, Width::Byte, memory, io);
-    let datum = moving::join(s.is_high_first(), first.datum, second.datum);
+    let datum = funnel::join(s.is_high_first(), first.datum, second.datum);
     let to = write_on(s.b, Width::Word, datum, memory, io);
     finished(false, second.next, to, s.count, datum)
 }
@@ -136,14 +136,14 @@ fn word_to_bytes(s: Set, memory: &mut [u8], io: &mut [u8]) -> Done
     let half = write_on(
         s.a,
         Width::Byte,
-        moving::first_half(high, got.datum),
+        funnel::first_half(high, got.datum),
         memory,
         io,
     );
     let to = write_on(
         half,
         Width::Byte,
-        moving::second_half(high, got.datum),
+        funnel::second_half(high, got.datum),
         memory,
         io,
     );

@@ -3,7 +3,7 @@ use Prim.Native.Nat.{ℕ, _%_}
 use mathlib.Core.Bool.{Bool, true, false, not, cond, _&&_}
 use lib.Dec.{eqb}
 use Rattle.tag.specs.Tag.{keptChain}
-use Rattle.tag.specs.Address.{fetchedOn}
+use Rattle.address.specs.Address.{fetchedOn}
 use Rattle.reload.specs.declared.Entry.{Entry}
 use Rattle.reload.specs.declared.Entry.the-variants.{CurrentA, CurrentB, CurrentCount, BaseA, BaseB, BaseCount, PatternAndMask, Vector, Mode, ChainAddress, Nothing}
 use Rattle.reload.specs.Reload.{entryOf, restOf, isPair}

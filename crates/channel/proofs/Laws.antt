@@ -2,9 +2,9 @@
 use mathlib.Core.Path.{_≡_, sym, ap, _∙_}
 use mathlib.Core.Bool.{Bool, true, false}
 use Rattle.port.specs.declared.Which.{Which}
-use Rattle.mode.specs.declared.Reasons.{Reasons}
+use Rattle.reasons.specs.declared.Reasons.{Reasons}
 use Rattle.mode.specs.Mode.{interruptOf, chainOf}
-use Rattle.mode.specs.Reasons.{enabledFor}
+use Rattle.reasons.specs.Reasons.{enabledFor}
 use Rattle.channel.specs.declared.Channel.{Channel}
 use Rattle.channel.specs.declared.Ended.{Ended}
 use Rattle.channel.specs.Ending.{withIp, interruptedBy, interrupted, flagged, finished, waited, endOf}

@@ -3,13 +3,13 @@ use Prim.Native.Nat.{ℕ}
 use mathlib.Core.Bool.{Bool, true, false, cond, _||_}
 use Rattle.port.specs.declared.Which.{Which}
 use Rattle.port.specs.declared.Which.the-variants.{One, Two}
-use Rattle.moving.specs.declared.Compared.{Compared}
+use Rattle.comparing.specs.declared.Compared.{Compared}
 use Rattle.mode.specs.declared.Mode.{Mode}
-use Rattle.mode.specs.declared.Reasons.{Reasons}
+use Rattle.reasons.specs.declared.Reasons.{Reasons}
 use Rattle.mode.specs.declared.RequestMode.{RequestMode}
 use Rattle.mode.specs.declared.RequestMode.the-variants.{Single, DemandHold, DemandRelease, DemandInterleave}
 use Rattle.mode.specs.Mode.{requestModeOf, isRequested, isMasked, withRequest, interruptOf, reloadOf, chainOf}
-use Rattle.mode.specs.Reasons.{some, enabledFor}
+use Rattle.reasons.specs.Reasons.{some, enabledFor}
 use Rattle.status.specs.declared.Flags.{Flags}
 use Rattle.status.specs.Status.{saveWord}
 use Rattle.channel.specs.declared.Channel.{Channel}

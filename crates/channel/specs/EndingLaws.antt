@@ -1,7 +1,7 @@
 -- A unit without EOP ends its operation exactly if its datum meets the condition or its count reaches 0. Assumes nothing.
 use mathlib.Core.Path.{_≡_, refl}
 use mathlib.Core.Bool.{Bool, true, false, _||_}
-use Rattle.mode.specs.Reasons.{some}
+use Rattle.reasons.specs.Reasons.{some}
 use Rattle.unit.specs.declared.Moved.{Moved}
 use Rattle.channel.specs.Ending.{reasonsOf}
 

@@ -4,14 +4,14 @@ ghost use Rattle.mode.specs.Mode.{isRequested};
 ghost use Rattle.channel.specs.Candidate.{isCandidate};
 ghost use Rattle.channel.specs.Ending.{flagsOf, isTwo, saved, withIp, flagged, interrupted, finished, endOf, movedBy, spent, unended};
 ghost use Rattle.channel.specs.Reset.{resetChannel};
+use address::Address;
+use address::Set;
 use mode::Mode;
-use mode::Reasons;
 use mode::RequestMode;
 use port::Which;
+use reasons::Reasons;
 use request::Line;
 use status::Flags;
-use tag::Address;
-use tag::Set;
 use unit::Moved;
 
 pub struct Interrupt {

@@ -3,7 +3,7 @@ use Prim.Native.Nat.{ℕ}
 use mathlib.Core.Path.{_≡_, sym, ap, _∙_}
 use mathlib.Core.Bool.{Bool, true, false}
 use Rattle.port.specs.declared.Which.{Which}
-use Rattle.tag.specs.Address.{isOdd}
+use Rattle.address.specs.Address.{isOdd}
 use Rattle.unit.specs.Unit.{unitRefusal}
 use Rattle.channel.specs.declared.Channel.{Channel}
 use Rattle.reload.specs.declared.Stage.the-variants.{Reload}

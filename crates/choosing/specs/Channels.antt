@@ -3,7 +3,7 @@
 use mathlib.Core.Bool.{Bool, not, _&&_}
 use Rattle.port.specs.declared.Which.{Which}
 use Rattle.mode.specs.Mode.{requestModeOf}
-use Rattle.tag.specs.Address.{isOdd}
+use Rattle.address.specs.Address.{isOdd}
 use Rattle.unit.specs.Unit.{unitRefusal}
 use Rattle.channel.specs.declared.Channel.{Channel}
 use Rattle.channel.specs.Candidate.{isCandidate}

@@ -7,8 +7,8 @@ use Rattle.space.specs.Space.{Spaces}
 use Rattle.port.specs.declared.Which.{Which}
 use Rattle.mode.specs.declared.RequestMode.{RequestMode}
 use Rattle.mode.specs.Mode.{requestModeOf}
-use Rattle.mode.specs.Reasons.{some}
-use Rattle.tag.specs.Address.{isOdd}
+use Rattle.reasons.specs.Reasons.{some}
+use Rattle.address.specs.Address.{isOdd}
 use Rattle.unit.specs.declared.Moved.{Moved}
 use Rattle.units.specs.declared.Pair.{Pair}
 use Rattle.units.specs.declared.Carried.{Carried}
@@ -58,8 +58,8 @@ module _ (u : Controller) (x y a b : Bool) (t : Turn) (ex : x ≡ interleaves (u
   pub nobodys : t ≡ Nobodys → Idle ≡ candidate u
   nobodys e = sym (by-turn e)
 
-  pub whose : (w : Which) (r : Choice) (c : Channel) → t ≡ Whose w → c ≡ at w u → r ≡ begins w c → r ≡ candidate u
-  whose w r c e ec er = er ∙ ap (begins w) ec ∙ sym (by-turn e)
+  pub whose : (w : Which) (r : Choice) → t ≡ Whose w → r ≡ begins w (at w u) → r ≡ candidate u
+  whose w r e er = er ∙ sym (by-turn e)
 
 -- ---- the rules
 
@@ -86,9 +86,9 @@ module _ (u : Controller) where
   pub rule-3 : u .control .chain ≡ NoChain → u .control .note ≡ true → GiveBack ≡ choiceBy true (u .control .chain) (u .control .note) (u .control .bus) u
   rule-3 p n = sym (by p n refl)
 
-  pub rule-4 : (r : Choice) (w : Which) (c : Channel) → u .control .chain ≡ NoChain → u .control .note ≡ false → u .control .bus ≡ Kept w → c ≡ at w u → r ≡ keeper w c
+  pub rule-4 : (r : Choice) (w : Which) → u .control .chain ≡ NoChain → u .control .note ≡ false → u .control .bus ≡ Kept w → r ≡ keeper w (at w u)
       → r ≡ choiceBy true (u .control .chain) (u .control .note) (u .control .bus) u
-  rule-4 r w c p n b ec er = er ∙ ap (keeper w) ec ∙ sym (by p n b)
+  rule-4 r w p n b er = er ∙ sym (by p n b)
 
   pub rule-5 : (r : Choice) → u .control .chain ≡ NoChain → u .control .note ≡ false → u .control .bus ≡ Free → r ≡ candidate u
       → r ≡ choiceBy true (u .control .chain) (u .control .note) (u .control .bus) u

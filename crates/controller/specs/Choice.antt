@@ -2,7 +2,7 @@
 -- Assumes nothing.
 use mathlib.Core.Bool.{Bool, true, false, _&&_}
 use Rattle.port.specs.declared.Which.{Which}
-use Rattle.tag.specs.Address.{isOdd}
+use Rattle.address.specs.Address.{isOdd}
 use Rattle.channel.specs.Candidate.{isCandidate}
 use Rattle.reload.specs.declared.Stage.{Stage}
 use Rattle.control.specs.declared.Chain.{Chain}

@@ -5,7 +5,7 @@ use mathlib.Core.List.{List}
 use Rattle.port.specs.declared.Which.{Which}
 use Rattle.space.specs.declared.Width.the-variants.{Word}
 use Rattle.space.specs.Space.{valueIn}
-use Rattle.tag.specs.Address.{number}
+use Rattle.address.specs.Address.{number}
 use Rattle.reload.specs.declared.Stage.{Stage}
 use Rattle.reload.specs.declared.Next.{Next}
 use Rattle.chain.specs.declared.Loaded.{Loaded}

@@ -8,8 +8,8 @@ use Rattle.port.specs.declared.Which.the-variants.{One, Two}
 use Rattle.mode.specs.declared.RequestMode.{RequestMode}
 use Rattle.mode.specs.declared.RequestMode.the-variants.{Single, DemandHold, DemandRelease, DemandInterleave}
 use Rattle.mode.specs.Mode.{requestModeOf}
-use Rattle.mode.specs.Reasons.{some}
-use Rattle.tag.specs.Address.{isOdd}
+use Rattle.reasons.specs.Reasons.{some}
+use Rattle.address.specs.Address.{isOdd}
 use Rattle.unit.specs.declared.Work.{Work}
 use Rattle.unit.specs.declared.Moved.{Moved}
 use Rattle.unit.specs.Unit.{unitRefusal}

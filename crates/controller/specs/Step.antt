@@ -4,10 +4,10 @@ use mathlib.Core.Bool.{Bool, true, false}
 use mathlib.Core.List.{List}
 use Rattle.port.specs.declared.Which.{Which}
 use Rattle.space.specs.Space.{Spaces}
-use Rattle.mode.specs.declared.Reasons.{Reasons}
+use Rattle.reasons.specs.declared.Reasons.{Reasons}
 use Rattle.mode.specs.declared.RequestMode.{RequestMode}
 use Rattle.mode.specs.Mode.{requestModeOf}
-use Rattle.mode.specs.Reasons.{some}
+use Rattle.reasons.specs.Reasons.{some}
 use Rattle.unit.specs.declared.Work.{Work}
 use Rattle.unit.specs.declared.Moved.{Moved}
 use Rattle.unit.specs.Unit.{worked}

@@ -9,7 +9,7 @@ use Rattle.space.specs.Space.{Spaces}
 use Rattle.mode.specs.declared.RequestMode.{RequestMode}
 use Rattle.mode.specs.declared.RequestMode.the-variants.{Single, DemandHold, DemandRelease, DemandInterleave}
 use Rattle.mode.specs.Mode.{requestModeOf}
-use Rattle.tag.specs.Address.{isOdd}
+use Rattle.address.specs.Address.{isOdd}
 use Rattle.unit.specs.Unit.{unitRefusal, worked}
 use Rattle.facts.specs.Rows.{inARow}
 use Rattle.units.specs.Units.{isDedicated, limitOf, onwards}

@@ -5,20 +5,21 @@ ghost use Rattle.space.specs.Space.{spaces};
 ghost use Rattle.port.specs.Ports.{other};
 ghost use Rattle.controller.specs.Set.{_⟨control≔_⟩};
 ghost use Rattle.controller.specs.Controller.{at, with};
+ghost use Rattle.choosing.specs.Channels.{keeper, begins};
 ghost use Rattle.controller.specs.Choice.{candidate, choiceBy, choice};
 ghost use Rattle.mode.specs.Mode.{requestModeOf};
 ghost use Rattle.controller.specs.Step.{outcome, workOf, goneOn, endedAfter, unitOf, holdOf, backOf, stepOf};
 ghost use Rattle.controller.specs.Stride.{strode, once, takeTurns, pairOf, rested, fetchesBy, strideBy, strideOf};
 ghost use Rattle.rules.specs.declared.Choice.the-variants as choice;
 use channel::Channel;
+use comparing::Compared;
 use control::Back;
 use control::Bus;
 use control::Chain;
 use control::Control;
-use mode::Reasons;
 use mode::RequestMode;
-use moving::Compared;
 use port::Which;
+use reasons::Reasons;
 use reload::Stage;
 use rules::Choice;
 use rules::Turn;
@@ -109,6 +110,15 @@ impl Controller {
         self.with_channel(w, c)
     }
 
+    fn begin(self, w: Which) -> Choice
+        ensures { λ r. ⌜ r ≡ begins w (at w self) ⌝ }
+    {
+        match w {
+            Which::One => choosing::begin_choice(Which::One, self.one),
+            Which::Two => choosing::begin_choice(Which::Two, self.two),
+        }
+    }
+
     fn candidate_choice(self) -> Choice
         ensures { λ r. ⌜ r ≡ candidate self ⌝ }
     {
@@ -123,7 +133,16 @@ impl Controller {
         );
         match turn {
             Turn::Nobodys => Choice::Idle,
-            Turn::Whose(w) => choosing::begin_choice(w, self.channel(w)),
+            Turn::Whose(w) => self.begin(w),
+        }
+    }
+
+    fn keeper(self, w: Which) -> Choice
+        ensures { λ r. ⌜ r ≡ keeper w (at w self) ⌝ }
+    {
+        match w {
+            Which::One => choosing::keeper_choice(Which::One, self.one),
+            Which::Two => choosing::keeper_choice(Which::Two, self.two),
         }
     }
 
@@ -141,7 +160,7 @@ impl Controller {
                 }
                 let bus = control.bus;
                 match bus {
-                    Bus::Kept(w) => choosing::keeper_choice(w, self.channel(w)),
+                    Bus::Kept(w) => self.keeper(w),
                     Bus::Free => self.candidate_choice(),
                 }
             }

@@ -7,7 +7,7 @@ use lib.Dec.{ltb}
 use Rattle.facts.specs.Rows.{Row, Reached, begun, on-yet, all-done, turn}
 use Rattle.space.specs.declared.Width.the-variants.{Word}
 use Rattle.space.specs.Space.{valueIn}
-use Rattle.tag.specs.Address.{number}
+use Rattle.address.specs.Address.{number}
 use Rattle.channel.specs.declared.Channel.{Channel}
 use Rattle.reload.specs.declared.Progress.{Progress}
 use Rattle.reload.specs.declared.Stage.{Stage}

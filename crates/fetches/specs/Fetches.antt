@@ -5,7 +5,7 @@ use mathlib.Core.List.{List}
 use Rattle.facts.specs.Rows.{Row, Turns, inARow}
 use Rattle.space.specs.declared.Width.the-variants.{Word}
 use Rattle.space.specs.Space.{valueIn}
-use Rattle.tag.specs.Address.{number}
+use Rattle.address.specs.Address.{number}
 use Rattle.channel.specs.declared.Channel.{Channel}
 use Rattle.reload.specs.declared.Stage.{Stage}
 use Rattle.reload.specs.declared.Stage.the-variants.{Entries}

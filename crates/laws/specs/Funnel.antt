@@ -9,8 +9,8 @@ use lib.ListN.{getD}
 use Rattle.space.specs.declared.Place.{Place}
 use Rattle.space.specs.Space.{Spaces, get}
 use Rattle.space.specs.Laws.{Bytes}
-use Rattle.moving.specs.Funnel.{joined, firstHalf, secondHalf}
-use Rattle.moving.specs.FunnelLaws.{halves-joined}
+use Rattle.funnel.specs.Funnel.{joined, firstHalf, secondHalf}
+use Rattle.funnel.specs.FunnelLaws.{halves-joined}
 use Rattle.laws.specs.Local.{Write, gets, gets-agree}
 use Rattle.laws.specs.Block.{values, To, Arrived}
 

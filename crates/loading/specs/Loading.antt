@@ -4,8 +4,8 @@ use Prim.Native.Nat.{ℕ, _%_}
 use mathlib.Core.Bool.{Bool, true, false}
 use Rattle.reload.specs.declared.Entry.{Entry}
 use Rattle.reload.specs.declared.Entry.the-variants.{CurrentA, CurrentB, CurrentCount, BaseA, BaseB, BaseCount, PatternAndMask, Vector, Mode, ChainAddress, Nothing}
-use Rattle.tag.specs.declared.Address.{Address}
-use Rattle.tag.specs.declared.Set.{Set}
+use Rattle.address.specs.declared.Address.{Address}
+use Rattle.address.specs.declared.Set.{Set}
 use Rattle.tag.specs.Tag.{keptTag, keptChain}
 use Rattle.mode.specs.Mode.{keptHigh}
 use Rattle.channel.specs.declared.Channel.{Channel}

@@ -3,10 +3,10 @@ ghost use mathlib.Core.Path.{_≡_};
 ghost use mathlib.Core.Bool.{false};
 ghost use Rattle.loading.specs.Loading.{addressWith, withA, withB, compareWith, modeWith, chainWith, loaded};
 ghost use Rattle.reload.specs.declared.Entry.the-variants.{CurrentA, CurrentB, CurrentCount, BaseA, BaseB, BaseCount, Vector};
+use address::Address;
+use address::Set;
 use channel::Channel;
 use reload::Entry;
-use tag::Address;
-use tag::Set;
 
 fn address_with(second: bool, w: u16, a: Address) -> Address
     ensures { λ r. ⌜ r ≡ addressWith second w a ⌝ }

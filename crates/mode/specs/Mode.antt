@@ -6,12 +6,12 @@ use Rattle.facts.specs.Bits.{bitAt, bitIf}
 use Rattle.facts.specs.Look.{look}
 use Rattle.space.specs.declared.Width.the-variants.{Byte, Word}
 use Rattle.mode.specs.declared.Mode.{Mode}
-use Rattle.mode.specs.declared.Reasons.{Reasons}
+use Rattle.reasons.specs.declared.Reasons.{Reasons}
 use Rattle.operation.specs.declared.Operation.{Operation}
 use Rattle.operation.specs.declared.Operation.the-variants.{Transfer, FunnelledTransfer, TransferAndSearch, FunnelledTransferAndSearch, Search, Flyby, Illegal}
 use Rattle.mode.specs.declared.RequestMode.{RequestMode}
 use Rattle.mode.specs.declared.RequestMode.the-variants.{Single, DemandHold, DemandRelease, DemandInterleave}
-use Rattle.mode.specs.Reasons.{triple}
+use Rattle.reasons.specs.Reasons.{triple}
 
 -- 0 word, 1 byte, 8 and 9 funnelled transfer; 4 word, 5 byte, C and D funnelled transfer-and-search; E word, F byte search;
 -- 2, 3, 6, 7 flyby; A, B illegal.

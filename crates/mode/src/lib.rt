@@ -1,44 +1,9 @@
 // The mode register: its fields.
 ghost use mathlib.Core.Path.{_≡_};
-ghost use Prim.Native.Nat.{_<_};
 ghost use Rattle.mode.specs.Mode.{operationOf, requestModeOf, isFlipped, interruptOf, reloadOf, chainOf, matchControl, hasDack, isMasked, isRequested, withFlip, withMask, withRequest, keptHigh};
-ghost use Rattle.mode.specs.Reasons.{some, enabledFor, triple};
 use operation::Operation;
+use reasons::Reasons;
 use space::Width;
-
-// Why an operation ends; also a triple of the mode, by which each reason is enabled or not.
-pub struct Reasons {
-    pub tc: bool,
-    pub mc: bool,
-    pub eop: bool,
-}
-
-impl Reasons {
-    pub fn any(self) -> bool
-        ensures { λ r. ⌜ r ≡ some self ⌝ }
-    {
-        self.tc | self.mc | self.eop
-    }
-
-    // A triple is enabled for one of the reasons.
-    pub fn enables(self, why: Reasons) -> bool
-        ensures { λ r. ⌜ r ≡ enabledFor self why ⌝ }
-    {
-        (self.tc & why.tc) | (self.mc & why.mc) | (self.eop & why.eop)
-    }
-}
-
-// The triple whose lowest bit, TC, is bit k.
-fn triple_at(low: u16, k: u16) -> Reasons
-    requires { ⌜ k < 14 ⌝ }
-    ensures { λ r. ⌜ r ≡ triple k low ⌝ }
-{
-    Reasons {
-        tc: (low >> k) & 1 == 1,
-        mc: (low >> (k + 1)) & 1 == 1,
-        eop: (low >> (k + 2)) & 1 == 1,
-    }
-}
 
 pub enum RequestMode {
     Single,
@@ -98,19 +63,19 @@ impl Mode {
     pub fn interrupts(self) -> Reasons
         ensures { λ r. ⌜ r ≡ interruptOf self ⌝ }
     {
-        triple_at(self.low, 7)
+        reasons::triple_at(self.low, 7)
     }
 
     pub fn reloads(self) -> Reasons
         ensures { λ r. ⌜ r ≡ reloadOf self ⌝ }
     {
-        triple_at(self.low, 10)
+        reasons::triple_at(self.low, 10)
     }
 
     pub fn chains(self) -> Reasons
         ensures { λ r. ⌜ r ≡ chainOf self ⌝ }
     {
-        triple_at(self.low, 13)
+        reasons::triple_at(self.low, 13)
     }
 
     pub fn match_control(self) -> u16

@@ -6,9 +6,9 @@ use acknowledging::AckAnswer;
 use commanding::Writing;
 use control::Back;
 use controller::Answer;
-use mode::Reasons;
 use port::Which;
 use reading::Reading;
+use reasons::Reasons;
 use udc::LineAnswer;
 
 fn channel_number(w: Which) -> u8

@@ -1,5 +1,6 @@
 // The points of document 01 that are run, and the data sheet's initialization program and reload table (Figures 23 and 24), each
 // compared with what it should be.
+use address::Address;
 use channel::Channel;
 use commanding::Writing;
 use commanding::Written;
@@ -14,7 +15,6 @@ use space::IoAddress;
 use space::MemoryAddress;
 use space::Place;
 use space::Width;
-use tag::Address;
 
 // The reload table of Figure 24, from address 1020h on, as its reload word 03FFh takes it.
 const TABLE: [u16; 18] = [
@@ -157,7 +157,7 @@ fn store_words(memory: &mut [u8], io: &mut [u8], from: Place, words: &[u16]) {
     let mut i = 0;
     while i < words.len() {
         space::write(memory, io, at, Width::Word, words[i]);
-        at = at.stepped(Direction::Up, Width::Word);
+        at = stepping::stepped(at, Direction::Up, Width::Word);
         i += 1;
     }
 }
@@ -168,7 +168,7 @@ fn has_words(memory: &[u8], io: &[u8], from: Place, words: &[u16]) -> bool {
     let mut i = 0;
     while i < words.len() {
         right = right & (space::read(memory, io, at, Width::Word) == words[i]);
-        at = at.stepped(Direction::Up, Width::Word);
+        at = stepping::stepped(at, Direction::Up, Width::Word);
         i += 1;
     }
     right

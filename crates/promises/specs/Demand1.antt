@@ -23,8 +23,8 @@ use Rattle.mode.specs.declared.RequestMode.{RequestMode}
 use Rattle.mode.specs.declared.RequestMode.the-variants.{Single, DemandHold, DemandRelease, DemandInterleave}
 use Rattle.mode.specs.Mode.{operationOf, isFlipped, requestModeOf}
 use Rattle.operation.specs.Operation.{carried}
-use Rattle.tag.specs.declared.Set.{Set}
-use Rattle.tag.specs.Address.{isOdd}
+use Rattle.address.specs.declared.Set.{Set}
+use Rattle.address.specs.Address.{isOdd}
 use Rattle.unit.specs.Unit.{oddWord, refusalOf, unitRefusal}
 use Rattle.channel.specs.declared.Channel.{Channel}
 use Rattle.channel.specs.Candidate.{isCandidate}

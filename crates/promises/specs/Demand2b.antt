@@ -13,21 +13,21 @@ use Rattle.laws.specs.Local.{Agree, Prog, gets, bytesAt}
 use Rattle.laws.specs.Machine.{iter, Every, every-map, every-init}
 use Rattle.laws.specs.Op.{Ends, ended, Seen, bump, after, done, Unended, seen-data, Steady, Area, Reads-at}
 use Rattle.laws.specs.Search.{First, outcome, Looks, Looking, Found, meets, search-ends}
-use Rattle.moving.specs.Count.{fewer, terminal}
-use Rattle.moving.specs.CountLaws.{fewer-left, last-terminal}
-use Rattle.moving.specs.Comparison.{comparison}
-use Rattle.tag.specs.declared.Address.{Address}
-use Rattle.tag.specs.declared.Set.{Set}
-use Rattle.tag.specs.Address.{placeOf, steppedOn, sourceOf}
+use Rattle.counting.specs.Count.{fewer, terminal}
+use Rattle.counting.specs.CountLaws.{fewer-left, last-terminal}
+use Rattle.comparing.specs.Comparison.{comparison}
+use Rattle.address.specs.declared.Address.{Address}
+use Rattle.address.specs.declared.Set.{Set}
+use Rattle.address.specs.Address.{placeOf, steppedOn, sourceOf}
 use Rattle.mode.specs.declared.Mode.{Mode}
-use Rattle.mode.specs.declared.Reasons.{Reasons}
+use Rattle.reasons.specs.declared.Reasons.{Reasons}
 use Rattle.mode.specs.declared.RequestMode.{RequestMode}
 use Rattle.mode.specs.declared.RequestMode.the-variants.{Single, DemandHold, DemandRelease, DemandInterleave}
 use Rattle.operation.specs.declared.Operation.{Operation}
 use Rattle.operation.specs.declared.Operation.the-variants.{Search}
 use Rattle.mode.specs.Mode.{operationOf, isFlipped, matchControl, requestModeOf, isRequested}
 use Rattle.mode.specs.Laws.{control-request}
-use Rattle.mode.specs.Reasons.{some}
+use Rattle.reasons.specs.Reasons.{some}
 use Rattle.unit.specs.declared.Moved.{Moved}
 use Rattle.unit.specs.Unit.{bytes, readsOf, valueOf, datumOf, datumAt, storedAt, compared, steppedSet, movedOf, worked}
 use Rattle.channel.specs.declared.Channel.{Channel}

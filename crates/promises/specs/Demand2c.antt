@@ -20,17 +20,17 @@ use Rattle.laws.specs.Block.{To, Both, Laid, Carrying, Writes-at, Arrived, bloc
 use Rattle.laws.specs.Funnel.{to-bytes, to-word, round-trip}
 use Rattle.laws.specs.Pace.{pace}
 use Rattle.laws.specs.Area.{Line, byte, high, low, word-reads, byte-reads, byte-writes, word-writes, Apart-inside, laid-bytes, laid-words, apart-size, bytes-kept}
-use Rattle.moving.specs.Count.{fewer, terminal}
-use Rattle.moving.specs.CountLaws.{fewer-left, last-terminal}
-use Rattle.moving.specs.Funnel.{highFirst}
-use Rattle.tag.specs.declared.Address.{Address}
-use Rattle.tag.specs.declared.Set.{Set}
-use Rattle.tag.specs.Address.{placeOf, steppedOn}
-use Rattle.tag.specs.Laws.{Words}
+use Rattle.counting.specs.Count.{fewer, terminal}
+use Rattle.counting.specs.CountLaws.{fewer-left, last-terminal}
+use Rattle.funnel.specs.Funnel.{highFirst}
+use Rattle.address.specs.declared.Address.{Address}
+use Rattle.address.specs.declared.Set.{Set}
+use Rattle.address.specs.Address.{placeOf, steppedOn}
+use Rattle.address.specs.Laws.{Words}
 use Rattle.operation.specs.declared.Operation.{Operation}
 use Rattle.operation.specs.declared.Operation.the-variants.{FunnelledTransfer}
 use Rattle.mode.specs.Mode.{operationOf, isFlipped, requestModeOf}
-use Rattle.mode.specs.Reasons.{some}
+use Rattle.reasons.specs.Reasons.{some}
 use Rattle.unit.specs.Unit.{bytes, readsOf, writesOf, datumOf, writtenOf, datumAt, compared, steppedSet, movedOf, worked}
 use Rattle.channel.specs.declared.Channel.{Channel}
 use Rattle.channel.specs.EndingLaws.{ends-exactly}

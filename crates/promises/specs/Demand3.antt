@@ -15,9 +15,9 @@ use Rattle.port.specs.declared.Which.{Which}
 use Rattle.port.specs.declared.Which.the-variants.{One, Two}
 use Rattle.mode.specs.declared.RequestMode.{RequestMode}
 use Rattle.mode.specs.declared.RequestMode.the-variants.{DemandInterleave}
-use Rattle.mode.specs.declared.Reasons.{Reasons}
+use Rattle.reasons.specs.declared.Reasons.{Reasons}
 use Rattle.mode.specs.Mode.{requestModeOf}
-use Rattle.mode.specs.Reasons.{some}
+use Rattle.reasons.specs.Reasons.{some}
 use Rattle.unit.specs.declared.Moved.{Moved}
 use Rattle.unit.specs.Unit.{unitRefusal, worked}
 use Rattle.channel.specs.declared.Channel.{Channel}
@@ -122,7 +122,7 @@ refusal c = unitRefusal (c .mode) (c .current)
 
 begins-ready : (w : Which) (c : Channel) → Ready c → begins w c ≡ unitBy (refusal c) w
 unfolding begins refusal
-begins-ready w c h = λ i. beginBy (h .pending i) (Rattle.tag.specs.Address.isOdd (c .chain)) (unitRefusal (c .mode) (c .current)) w
+begins-ready w c h = λ i. beginBy (h .pending i) (Rattle.address.specs.Address.isOdd (c .chain)) (unitRefusal (c .mode) (c .current)) w
 
 abbrev expected : Bool → Served → Controller → Choice
 expected true s u = chosen.GiveBack

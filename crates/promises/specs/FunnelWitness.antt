@@ -14,13 +14,13 @@ use Rattle.space.specs.Laws.{SameSize, Bytes, bytes-of-lists, place-inj}
 use Rattle.laws.specs.Machine.{iter, Every}
 use Rattle.laws.specs.Area.{Apart-inside, high, low}
 use Rattle.laws.specs.Area as area
-use Rattle.tag.specs.declared.Address.{Address}
+use Rattle.address.specs.declared.Address.{Address}
 use Rattle.tag.specs.Tag.{directionOf}
-use Rattle.tag.specs.Address.{placeOf, steppedOn}
-use Rattle.tag.specs.Laws.{Words}
+use Rattle.address.specs.Address.{placeOf, steppedOn}
+use Rattle.address.specs.Laws.{Words}
 use Rattle.mode.specs.Mode.{operationOf, requestModeOf}
-use Rattle.mode.specs.Reasons.{some}
-use Rattle.moving.specs.Comparison.{comparison}
+use Rattle.reasons.specs.Reasons.{some}
+use Rattle.comparing.specs.Comparison.{comparison}
 use Rattle.unit.specs.Unit.{oddWord, unitRefusal, datumAt, storedAt, compared, steppedSet, movedOf, worked}
 use Rattle.channel.specs.Candidate.{isCandidate}
 use Rattle.request.specs.Request.{requests}

@@ -14,8 +14,8 @@ use Rattle.port.specs.declared.Which.the-variants.{One, Two}
 use Rattle.mode.specs.declared.RequestMode.{RequestMode}
 use Rattle.mode.specs.declared.RequestMode.the-variants.{Single, DemandHold, DemandRelease, DemandInterleave}
 use Rattle.mode.specs.Mode.{requestModeOf}
-use Rattle.mode.specs.Reasons.{some}
-use Rattle.tag.specs.Address.{isOdd, number}
+use Rattle.reasons.specs.Reasons.{some}
+use Rattle.address.specs.Address.{isOdd, number}
 use Rattle.unit.specs.Unit.{unitRefusal, worked}
 use Rattle.channel.specs.declared.Channel.{Channel}
 use Rattle.channel.specs.Candidate.{isCandidate}

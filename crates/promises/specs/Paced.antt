@@ -9,14 +9,14 @@ use Rattle.space.specs.declared.Direction.{Direction}
 use Rattle.space.specs.declared.Direction.the-variants.{Up, Down, Hold}
 use Rattle.space.specs.declared.Place.{Place}
 use Rattle.space.specs.Space.{placeAt}
-use Rattle.space.specs.Stepping.{stride, moved}
+use Rattle.stepping.specs.Stepping.{stride, moved}
 use Rattle.laws.specs.Pace.{pace, pace-start, pace-step}
 use Rattle.laws.specs.Area.{Line}
-use Rattle.moving.specs.Funnel.{highFirst}
-use Rattle.tag.specs.declared.Address.{Address}
+use Rattle.funnel.specs.Funnel.{highFirst}
+use Rattle.address.specs.declared.Address.{Address}
 use Rattle.tag.specs.Tag.{isMemory, directionOf}
-use Rattle.tag.specs.Address.{number, withNumber, placeOf, steppedOn}
-use Rattle.tag.specs.Laws.{Words, number-lt, memory-with, direction-with, words-with, number-stepped}
+use Rattle.address.specs.Address.{number, withNumber, placeOf, steppedOn}
+use Rattle.address.specs.Laws.{Words, number-lt, memory-with, direction-with, words-with, number-stepped}
 use Rattle.promises.specs.Demand2b.{steps}
 
 -- memory bytes by 1, words and all I/O by 2; down is a step up of what is left of a whole turn

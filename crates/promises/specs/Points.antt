@@ -6,11 +6,11 @@ use Prim.Native.Nat.{ℕ}
 use Rattle.facts.specs.Look.{look}
 use Rattle.space.specs.declared.Width.the-variants.{Byte, Word}
 use Rattle.space.specs.declared.Direction.the-variants.{Up, Down}
-use Rattle.space.specs.Stepping.{steppedBy}
+use Rattle.stepping.specs.Stepping.{steppedBy}
 use Rattle.space.specs.Laws.{memoryAt, ioAt}
-use Rattle.moving.specs.Comparison.{comparison}
-use Rattle.moving.specs.Funnel.{highFirst, joined}
-use Rattle.tag.specs.declared.Set.{Set}
+use Rattle.comparing.specs.Comparison.{comparison}
+use Rattle.funnel.specs.Funnel.{highFirst, joined}
+use Rattle.address.specs.declared.Set.{Set}
 use Rattle.mode.specs.Mode.{operationOf}
 use Rattle.reload.specs.Reload.{wordsOf}
 use Rattle.unit.specs.declared.Work.{Work}

@@ -7,9 +7,9 @@ use native.Mathlib.Omega.{arith}
 use Rattle.port.specs.declared.Which.{Which}
 use Rattle.port.specs.declared.Register.{Register}
 use Rattle.port.specs.declared.Register.the-variants as register
-use Rattle.tag.specs.declared.Address.{Address}
-use Rattle.tag.specs.declared.Set.{Set}
-use Rattle.tag.specs.Laws.{kept-kept, chain-chain}
+use Rattle.address.specs.declared.Address.{Address}
+use Rattle.address.specs.declared.Set.{Set}
+use Rattle.address.specs.Laws.{kept-kept, chain-chain}
 use Rattle.mode.specs.declared.Mode.{Mode}
 use Rattle.mode.specs.Mode.{keptHigh, withRequest, withMask, withFlip}
 use Rattle.reload.specs.declared.Entry.{Entry}

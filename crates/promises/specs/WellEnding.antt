@@ -8,19 +8,19 @@ use Rattle.space.specs.declared.Width.{Width}
 use Rattle.space.specs.declared.Width.the-variants.{Byte}
 use Rattle.space.specs.Space.{Spaces}
 use Rattle.port.specs.declared.Which.{Which}
-use Rattle.tag.specs.declared.Address.{Address}
-use Rattle.tag.specs.declared.Set.{Set}
+use Rattle.address.specs.declared.Address.{Address}
+use Rattle.address.specs.declared.Set.{Set}
 use Rattle.tag.specs.Tag.{keptChain}
-use Rattle.tag.specs.Address.{steppedOn, fetchedOn}
-use Rattle.tag.specs.Laws.{kept-with, chain-chain, chain-with}
+use Rattle.address.specs.Address.{steppedOn, fetchedOn}
+use Rattle.address.specs.Laws.{kept-with, chain-chain, chain-with}
 use Rattle.mode.specs.declared.Mode.{Mode}
-use Rattle.mode.specs.declared.Reasons.{Reasons}
+use Rattle.reasons.specs.declared.Reasons.{Reasons}
 use Rattle.operation.specs.declared.Operation.{Operation}
 use Rattle.mode.specs.declared.RequestMode.{RequestMode}
 use Rattle.mode.specs.declared.RequestMode.the-variants.{Single, DemandHold, DemandRelease, DemandInterleave}
 use Rattle.mode.specs.Mode.{operationOf, isFlipped, requestModeOf, isRequested, isMasked, interruptOf}
 use Rattle.operation.specs.Operation.{funnels, widthOfA, widthOfB}
-use Rattle.mode.specs.Reasons.{enabledFor}
+use Rattle.reasons.specs.Reasons.{enabledFor}
 use Rattle.reload.specs.declared.Entry.{Entry}
 use Rattle.reload.specs.Reload.{entryOf, restOf, isPair}
 use Rattle.unit.specs.declared.Moved.{Moved}

@@ -6,8 +6,8 @@ use mathlib.Core.Bool.{Bool, true, false}
 use Prim.Native.Nat.{ℕ, _%_}
 use Rattle.port.specs.declared.Which.{Which}
 use Rattle.port.specs.Ports.{keptPointer}
-use Rattle.tag.specs.declared.Address.{Address}
-use Rattle.tag.specs.declared.Set.{Set}
+use Rattle.address.specs.declared.Address.{Address}
+use Rattle.address.specs.declared.Set.{Set}
 use Rattle.tag.specs.Tag.{keptTag, keptChain}
 use Rattle.mode.specs.declared.Mode.{Mode}
 use Rattle.mode.specs.declared.RequestMode.the-variants.{Single}

@@ -8,12 +8,12 @@ use Rattle.space.specs.declared.Width.the-variants.{Word}
 use Rattle.space.specs.Space.{Spaces, valueIn}
 use Rattle.port.specs.declared.Which.{Which}
 use Rattle.port.specs.declared.Which.the-variants.{One, Two}
-use Rattle.tag.specs.Address.{number, isOdd}
-use Rattle.mode.specs.declared.Reasons.{Reasons}
+use Rattle.address.specs.Address.{number, isOdd}
+use Rattle.reasons.specs.declared.Reasons.{Reasons}
 use Rattle.mode.specs.declared.RequestMode.{RequestMode}
 use Rattle.mode.specs.declared.RequestMode.the-variants.{Single, DemandHold, DemandRelease, DemandInterleave}
 use Rattle.mode.specs.Mode.{requestModeOf}
-use Rattle.mode.specs.Reasons.{some}
+use Rattle.reasons.specs.Reasons.{some}
 use Rattle.unit.specs.declared.Moved.{Moved}
 use Rattle.unit.specs.Unit.{worked, unitRefusal}
 use Rattle.channel.specs.declared.Channel.{Channel}

@@ -16,13 +16,13 @@ use Rattle.laws.specs.Machine.{iter, Every, count₁, count₂, AllApart}
 use Rattle.laws.specs.Inter.{units₁, units₂}
 use Rattle.laws.specs.Op.{Area, done}
 use Rattle.laws.specs.Search.{First, meets}
-use Rattle.moving.specs.Comparison.{comparison}
-use Rattle.tag.specs.declared.Address.{Address}
-use Rattle.tag.specs.declared.Set.{Set}
+use Rattle.comparing.specs.Comparison.{comparison}
+use Rattle.address.specs.declared.Address.{Address}
+use Rattle.address.specs.declared.Set.{Set}
 use Rattle.tag.specs.Tag.{directionOf}
-use Rattle.tag.specs.Address.{placeOf, steppedOn}
+use Rattle.address.specs.Address.{placeOf, steppedOn}
 use Rattle.mode.specs.Mode.{operationOf, requestModeOf}
-use Rattle.mode.specs.Reasons.{some}
+use Rattle.reasons.specs.Reasons.{some}
 use Rattle.unit.specs.Unit.{oddWord, unitRefusal, datumAt, storedAt, compared, steppedSet, movedOf, worked}
 use Rattle.channel.specs.declared.Channel.{Channel}
 use Rattle.channel.specs.Candidate.{isCandidate}

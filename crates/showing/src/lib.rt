@@ -3,14 +3,14 @@ ghost use mathlib.Core.Path.{_≡_};
 ghost use mathlib.Core.List.{_++_};
 ghost use Rattle.text.specs.Text.{written, appended, line, channelOf};
 ghost use Rattle.showing.specs.State.{servedOf, busOf, fetchedOf, wordsLeft, stageOf, chainOf, wordsText, controllerOf, twoWords, addressOf, setOf, currentOf, baseOf, comparedOf, modesOf, statusLine};
+use address::Address;
+use address::Set;
 use control::Bus;
 use control::Chain;
 use controller::Controller;
 use port::Which;
 use reload::Stage;
 use rules::Served;
-use tag::Address;
-use tag::Set;
 use text::Text;
 
 // ---- the controller's

@@ -15,10 +15,7 @@ use Rattle.space.specs.declared.Place.{Place}
 use Rattle.space.specs.declared.Place.the-variants.{Memory, Io}
 use Rattle.space.specs.declared.Width.{Width}
 use Rattle.space.specs.declared.Width.the-variants.{Byte, Word}
-use Rattle.space.specs.declared.Direction.{Direction}
-use Rattle.space.specs.declared.Direction.the-variants.{Up, Down, Hold}
 use Rattle.space.specs.Space.{Spaces, placeAt, addressOf, get, put, valueIn, withValue, readAt, written}
-use Rattle.space.specs.Stepping.{moved}
 
 -- ---- places
 
@@ -213,13 +210,6 @@ bytes-put s k v h b l = go (place-discrete l k)
         at : Inside s l ⊎ Beyond s l → get (put s l v) l < 256
         at (inl i) = let q = get-put-same s l v i in omega arith
         at (inr i) = let q = ap (λ (x : Spaces). get x l) (put-lost s l v i) in let c = h l in omega arith
-
--- ---- addresses of 24 bits
-
-pub moved-lt : (d : Direction) (by a : ℕ) → a < 16777216 → moved d by a < 16777216
-moved-lt Up by a h = omega arith
-moved-lt Down by a h = omega arith
-moved-lt Hold by a h = h
 
 -- the low half of a word at an even address of 24 bits is at an address of 24 bits: FFFFFFh for FFFFFEh
 pub word-within : (a : ℕ) → a < 16777216 → a % 2 ≡ 0 → a + 1 < 16777216

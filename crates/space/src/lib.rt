@@ -1,9 +1,7 @@
-// The two lent byte spaces, their addresses kept apart by type, and how an address steps.
+// The two lent byte spaces, and their addresses, kept apart by type.
 ghost use mathlib.Core.Path.{_≡_};
-ghost use Prim.Native.Nat.{_≤_};
 ghost use lib.ListN.{getD, set};
 ghost use Rattle.space.specs.Space.{spaces, placeAt, addressOf, valueIn, withValue, readAt, written};
-ghost use Rattle.space.specs.Stepping.{moved, stride, steppedBy};
 
 // A memory address never stands for an I/O address.
 pub struct MemoryAddress(pub u32);
@@ -105,31 +103,6 @@ pub fn write(memory: &mut [u8], io: &mut [u8], p: Place, w: Width, v: u16)
     }
 }
 
-// By how much a place steps: memory bytes by 1, words and all I/O by 2.
-fn stride_of(p: Place, w: Width) -> u32
-    ensures { λ r. ⌜ (r ≡ stride p w) × (r ≤ 2) ⌝ }
-{
-    match p {
-        Place::Memory(_) => match w {
-            Width::Byte => 1,
-            Width::Word => 2,
-        },
-        Place::Io(_) => 2,
-    }
-}
-
-// A 24-bit address, one step on.
-fn moved_by(d: Direction, by: u32, a: u32) -> u32
-    requires { ⌜ by ≤ 2 ⌝ }
-    ensures { λ r. ⌜ r ≡ moved d by a ⌝ }
-{
-    match d {
-        Direction::Up => std::num::wrapping_add_u32(a, by) % 16777216,
-        Direction::Down => std::num::wrapping_sub_u32(a, by) % 16777216,
-        Direction::Hold => a,
-    }
-}
-
 impl Place {
     pub fn address(self) -> u32
         ensures { λ r. ⌜ r ≡ addressOf self ⌝ }
@@ -137,17 +110,6 @@ impl Place {
         match self {
             Place::Memory(a) => a.0,
             Place::Io(a) => a.0,
-        }
-    }
-
-    // The next place of an operation of a width, in the same space.
-    pub fn stepped(self, d: Direction, w: Width) -> Place
-        ensures { λ r. ⌜ r ≡ steppedBy d w self ⌝ }
-    {
-        let by = stride_of(self, w);
-        match self {
-            Place::Memory(a) => Place::Memory(MemoryAddress(moved_by(d, by, a.0))),
-            Place::Io(a) => Place::Io(IoAddress(moved_by(d, by, a.0))),
         }
     }
 }

@@ -1,6 +1,8 @@
 // The controller's state from 72 words that a host keeps, whatever they hold.
 ghost use mathlib.Core.Path.{_≡_};
 ghost use Rattle.state.specs.State.{stageOf, chainOf, busOf, servedOf, channelAt, stateOf};
+use address::Address;
+use address::Set;
 use channel::Channel;
 use channel::Interrupt;
 use channel::Status;
@@ -9,14 +11,12 @@ use control::Chain;
 use control::Control;
 use controller::Controller;
 use mode::Mode;
-use mode::Reasons;
 use port::Which;
+use reasons::Reasons;
 use reload::Progress;
 use reload::Stage;
 use request::Line;
 use rules::Served;
-use tag::Address;
-use tag::Set;
 
 fn stage_of(t: u16, p: Progress) -> Stage
     ensures { λ r. ⌜ r ≡ stageOf t p ⌝ }

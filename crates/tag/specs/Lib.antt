@@ -1,3 +1,1 @@
 pub mod Tag
-pub mod Address
-pub mod Laws

@@ -1,7 +1,7 @@
 -- Document 01, "Registers": Reset, and a fresh controller. Assumes nothing.
 use mathlib.Core.Bool.{false}
-use Rattle.tag.specs.declared.Address.{Address}
-use Rattle.tag.specs.declared.Set.{Set}
+use Rattle.address.specs.declared.Address.{Address}
+use Rattle.address.specs.declared.Set.{Set}
 use Rattle.channel.specs.declared.Channel.{Channel}
 use Rattle.channel.specs.Reset.{resetChannel}
 use Rattle.control.specs.declared.Control.{Control}

@@ -2,6 +2,8 @@
 ghost use mathlib.Core.Path.{_≡_};
 ghost use Rattle.udc.specs.Reset.{resetOf, noRegister, noSet, noChannel, freshOf};
 ghost use Rattle.udc.specs.Lines.{lined, linedBy, linedAt};
+use address::Address;
+use address::Set;
 use channel::Channel;
 use channel::Interrupt;
 use channel::Status;
@@ -10,12 +12,10 @@ use control::Chain;
 use control::Control;
 use controller::Controller;
 use mode::Mode;
-use mode::Reasons;
 use port::Which;
+use reasons::Reasons;
 use request::Line;
 use rules::Served;
-use tag::Address;
-use tag::Set;
 
 pub enum LineAnswer {
     Refused(u8),

@@ -6,10 +6,10 @@ use Rattle.space.specs.declared.Width.{Width}
 use Rattle.space.specs.declared.Width.the-variants.{Byte}
 use Rattle.space.specs.Space.{Spaces}
 use Rattle.space.specs.Laws.{read-byte, written-byte}
-use Rattle.moving.specs.declared.Compared.{Compared}
-use Rattle.moving.specs.Count.{terminal}
-use Rattle.tag.specs.declared.Set.{Set}
-use Rattle.tag.specs.Address.{placeOf, steppedOn, sourceOf}
+use Rattle.comparing.specs.declared.Compared.{Compared}
+use Rattle.counting.specs.Count.{terminal}
+use Rattle.address.specs.declared.Set.{Set}
+use Rattle.address.specs.Address.{placeOf, steppedOn, sourceOf}
 use Rattle.operation.specs.declared.Operation.{Operation}
 use Rattle.operation.specs.declared.Operation.the-variants.{Transfer, FunnelledTransfer, TransferAndSearch, FunnelledTransferAndSearch, Search, Flyby, Illegal}
 use Rattle.operation.specs.Operation.{searches, widthOfA}

@@ -11,7 +11,7 @@ use Rattle.space.specs.declared.Place.the-variants.{Memory, Io}
 use Rattle.space.specs.Space.{Spaces, readAt, written}
 use Rattle.laws.specs.Local.{Write, gets, puts, stores, writing, puts-writing, bytesAt}
 use Rattle.operation.specs.declared.Operation.{Operation}
-use Rattle.tag.specs.declared.Set.{Set}
+use Rattle.address.specs.declared.Set.{Set}
 use Rattle.unit.specs.Unit.{bytes, writesOf, valueOf, bytesOf, datumOf, writtenOf, storedAt}
 
 pub value-read : (w : Width) (z : Spaces) (p : Place) → valueOf w (gets z (bytesAt w p [])) ≡ readAt w z p

@@ -9,13 +9,13 @@ use Rattle.space.specs.declared.Width.the-variants.{Byte, Word}
 use Rattle.space.specs.declared.Place.{Place}
 use Rattle.space.specs.Space.{Spaces}
 use Rattle.laws.specs.Local.{gets, stores, bytesAt}
-use Rattle.moving.specs.declared.Compared.{Compared}
-use Rattle.moving.specs.Count.{fewer, terminal}
-use Rattle.moving.specs.Comparison.{comparison}
-use Rattle.moving.specs.Funnel.{joined, firstHalf, secondHalf}
-use Rattle.tag.specs.declared.Address.{Address}
-use Rattle.tag.specs.declared.Set.{Set}
-use Rattle.tag.specs.Address.{placeOf, steppedOn, isOdd, orderOf}
+use Rattle.comparing.specs.declared.Compared.{Compared}
+use Rattle.counting.specs.Count.{fewer, terminal}
+use Rattle.comparing.specs.Comparison.{comparison}
+use Rattle.funnel.specs.Funnel.{joined, firstHalf, secondHalf}
+use Rattle.address.specs.declared.Address.{Address}
+use Rattle.address.specs.declared.Set.{Set}
+use Rattle.address.specs.Address.{placeOf, steppedOn, isOdd, orderOf}
 use Rattle.mode.specs.declared.Mode.{Mode}
 use Rattle.operation.specs.declared.Operation.{Operation}
 use Rattle.mode.specs.Mode.{operationOf, isFlipped, matchControl}

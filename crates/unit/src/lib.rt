@@ -2,12 +2,12 @@
 ghost use mathlib.Core.Path.{_≡_};
 ghost use Rattle.space.specs.Space.{spaces};
 ghost use Rattle.unit.specs.Unit.{oddAt, oddWord, unitRefusal, compared, whole, worked};
+use address::Address;
+use address::Set;
+use comparing::Compared;
 use mode::Mode;
-use moving::Compared;
 use operation::Operation;
 use space::Width;
-use tag::Address;
-use tag::Set;
 
 // What a unit works on.
 pub struct Work {
@@ -70,7 +70,7 @@ fn compare(
     ensures { λ r. ⌜ r ≡ compared o datum pattern mask control kept ⌝ }
 {
     if o.is_comparing() {
-        moving::compare(o.width_of_b(), datum, pattern, mask, control)
+        comparing::compare(o.width_of_b(), datum, pattern, mask, control)
     } else {
         kept
     }
@@ -96,6 +96,6 @@ pub fn carry(w: Work, memory: &mut [u8], io: &mut [u8]) -> Moved
     Moved {
         set: next,
         compared,
-        tc: moving::is_terminal(next.count),
+        tc: counting::is_terminal(next.count),
     }
 }

@@ -2,7 +2,7 @@
 use Prim.Native.Nat.{ℕ}
 use mathlib.Core.Bool.{Bool, true, false}
 use mathlib.Core.List.{List, []}
-use Rattle.mode.specs.declared.Reasons.{Reasons}
+use Rattle.reasons.specs.declared.Reasons.{Reasons}
 use Rattle.controller.specs.declared.Answer.{Answer}
 use Rattle.controller.specs.declared.Answer.the-variants as answer
 use Rattle.commanding.specs.declared.Writing.{Writing}

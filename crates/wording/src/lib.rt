@@ -7,9 +7,9 @@ ghost use Rattle.wording.specs.Wording.{ifSo, reasonsOf, answerOf, write
 use acknowledging::AckAnswer;
 use commanding::Writing;
 use controller::Answer;
-use mode::Reasons;
 use port::Which;
 use reading::Reading;
+use reasons::Reasons;
 use text::Text;
 use udc::LineAnswer;
 

@@ -1,0 +1,2 @@
+pub mod Funnel
+pub mod FunnelLaws

@@ -1,6 +1,0 @@
-pub mod Count
-pub mod Comparison
-pub mod Funnel
-pub mod CountLaws
-pub mod Bitwise
-pub mod FunnelLaws

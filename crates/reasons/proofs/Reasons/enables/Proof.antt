@@ -1,0 +1,11 @@
+use Rattle.reasons.specs.Reasons.{enabledFor}
+use mathlib.Core.Path.{refl}
+use Rattle.reasons.proofs.Reasons.enables.Statement.{statement}
+use Rattle.reasons.proofs.Reasons.enables.Tie as tie
+
+pub enables-spec : {M : Type 1} → statement M
+unfolding enabledFor
+enables-spec =
+    tie.close
+    (tie.spec
+    (λ c. refl))
