@@ -1,6 +1,6 @@
 // What belongs to no channel: who has the bus, which chain is under way, who was served last.
 ghost use mathlib.Core.Path.{_≡_};
-ghost use Rattle.control.specs.After.{chainAfter, unendedControl, heldControl, droppedControl, endedControl, heldControl, droppedControl, controlFetched, backControl};
+ghost use Rattle.control.specs.After.{chainAfter, unendedControl, heldControl, endedControl, heldControl, controlFetched, backControl};
 use mode::RequestMode;
 use port::Which;
 use reload::Next;
@@ -97,20 +97,6 @@ pub fn held_control(chains: bool, w: Which, k: Control) -> Control
     Control {
         chain: chain_after(chains, w, chain),
         bus: Bus::Free,
-        note: k.note,
-        served,
-    }
-}
-
-// EOP with a fetch drops the chain.
-pub fn dropped_control(k: Control) -> Control
-    ensures { λ r. ⌜ r ≡ droppedControl k ⌝ }
-{
-    let bus = k.bus;
-    let served = k.served;
-    Control {
-        chain: Chain::NoChain,
-        bus,
         note: k.note,
         served,
     }

@@ -97,10 +97,10 @@ module _ (u : Controller) where
 -- ---- what a step does
 
 module _ (w : Which) (eop : Bool) (u : Controller) (c : Channel) (s : Controller) (ec : c ≡ at w u) where
-  pub drops : (stage : Stage) (left : ℕ) (m : List ℕ) (d : Channel) (k : Control) → eop ≡ true → d ≡ droppedOf c → k ≡ droppedControl (u .control) → s ≡ with w d (u ⟨control≔ k ⟩)
+  pub drops : (stage : Stage) (left : ℕ) (m : List ℕ) (d : Channel) → eop ≡ true → d ≡ droppedOf c → s ≡ with w d (u ⟨control≔ droppedControl (u .control) ⟩)
       → once (says s (answer.Dropped w)) ≡ fetchesBy eop w stage left u m
   unfolding fetchOf
-  drops stage left m d k e ed ek es = rw (es, ek, ed, ec, e)
+  drops stage left m d e ed es = rw (es, ed, ec, e)
 
   pub fetches : (stage : Stage) (left : ℕ) (m : List ℕ) (x : Fetched) (active cpu : Bool) (k : Control) → eop ≡ false
       → fetchedAs x ≡ fetchesOf m (left - 1) 0 stage c → active ≡ requests (x .channel .mode) (x .channel .line) → cpu ≡ isInterleaved (u .master)

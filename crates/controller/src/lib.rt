@@ -184,8 +184,17 @@ impl Controller {
         let c = self.channel(w);
         let k = self.control;
         if eop {
+            // Here and not in a function of `control`: with that, a word of a chain took 3 % more instructions.
+            let bus = k.bus;
+            let served = k.served;
+            let next = Control {
+                chain: Chain::NoChain,
+                bus,
+                note: k.note,
+                served,
+            };
             return Strode {
-                state: self.with_both(w, chain::drop_chain(c), control::dropped_control(k)),
+                state: self.with_both(w, chain::drop_chain(c), next),
                 answer: Answer::Dropped(w),
                 steps: 1,
             };

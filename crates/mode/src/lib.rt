@@ -1,9 +1,23 @@
 // The mode register: its fields.
 ghost use mathlib.Core.Path.{_≡_};
+ghost use Prim.Native.Nat.{_<_};
+ghost use Rattle.reasons.specs.Reasons.{triple};
 ghost use Rattle.mode.specs.Mode.{operationOf, requestModeOf, isFlipped, interruptOf, reloadOf, chainOf, matchControl, hasDack, isMasked, isRequested, withFlip, withMask, withRequest, keptHigh};
 use operation::Operation;
 use reasons::Reasons;
 use space::Width;
+
+// The triple whose lowest bit, TC, is bit k.
+fn triple_at(low: u16, k: u16) -> Reasons
+    requires { ⌜ k < 14 ⌝ }
+    ensures { λ r. ⌜ r ≡ triple k low ⌝ }
+{
+    Reasons {
+        tc: (low >> k) & 1 == 1,
+        mc: (low >> (k + 1)) & 1 == 1,
+        eop: (low >> (k + 2)) & 1 == 1,
+    }
+}
 
 pub enum RequestMode {
     Single,
@@ -63,19 +77,19 @@ impl Mode {
     pub fn interrupts(self) -> Reasons
         ensures { λ r. ⌜ r ≡ interruptOf self ⌝ }
     {
-        reasons::triple_at(self.low, 7)
+        triple_at(self.low, 7)
     }
 
     pub fn reloads(self) -> Reasons
         ensures { λ r. ⌜ r ≡ reloadOf self ⌝ }
     {
-        reasons::triple_at(self.low, 10)
+        triple_at(self.low, 10)
     }
 
     pub fn chains(self) -> Reasons
         ensures { λ r. ⌜ r ≡ chainOf self ⌝ }
     {
-        reasons::triple_at(self.low, 13)
+        triple_at(self.low, 13)
     }
 
     pub fn match_control(self) -> u16

@@ -1,7 +1,6 @@
 // End reasons, and the mode's triples that enable them.
 ghost use mathlib.Core.Path.{_≡_};
-ghost use Prim.Native.Nat.{_<_};
-ghost use Rattle.reasons.specs.Reasons.{some, enabledFor, triple};
+ghost use Rattle.reasons.specs.Reasons.{some, enabledFor};
 
 // Why an operation ends; also a triple of the mode, by which each reason is enabled or not.
 pub struct Reasons {
@@ -22,17 +21,5 @@ impl Reasons {
         ensures { λ r. ⌜ r ≡ enabledFor self why ⌝ }
     {
         (self.tc & why.tc) | (self.mc & why.mc) | (self.eop & why.eop)
-    }
-}
-
-// The triple whose lowest bit, TC, is bit k.
-pub fn triple_at(low: u16, k: u16) -> Reasons
-    requires { ⌜ k < 14 ⌝ }
-    ensures { λ r. ⌜ r ≡ triple k low ⌝ }
-{
-    Reasons {
-        tc: (low >> k) & 1 == 1,
-        mc: (low >> (k + 1)) & 1 == 1,
-        eop: (low >> (k + 2)) & 1 == 1,
     }
 }

@@ -1,7 +1,7 @@
 use borrow.Author.Needs.{needs}
 use Rattle.facts.specs.Masks.{masks}
-use Rattle.reasons.proofs.triple_at.Statement.{statement}
-use Rattle.reasons.proofs.triple_at.Tie as tie
+use Rattle.mode.proofs.triple_at.Statement.{statement}
+use Rattle.mode.proofs.triple_at.Tie as tie
 
 pub triple-at-spec : {M : Type 1} → statement M
 triple-at-spec =
