@@ -1,21 +1,16 @@
--- Document 01, "Which step comes next": what a channel's own registers choose, for the one that keeps the bus and for a candidate.
--- Assumes nothing.
+-- Document 01, "Which step comes next": what the rules ask of a channel's own registers. Assumes nothing.
 use mathlib.Core.Bool.{Bool, not, _&&_}
 use Rattle.port.specs.declared.Which.{Which}
 use Rattle.mode.specs.Mode.{requestModeOf}
-use Rattle.address.specs.Address.{isOdd}
-use Rattle.unit.specs.Unit.{unitRefusal}
 use Rattle.channel.specs.declared.Channel.{Channel}
 use Rattle.channel.specs.Candidate.{isCandidate}
 use Rattle.request.specs.Request.{requests}
 use Rattle.rules.specs.declared.Choice.{Choice}
-use Rattle.rules.specs.Rules.{keeperBy, beginBy, isInterleave}
+use Rattle.rules.specs.Rules.{keeping, isInterleave}
 
+-- rule 4, by the keeper's registers
 unfoldable pub keeper : Which → Channel → Choice
-keeper w c = keeperBy (requests (c .mode) (c .line)) (requestModeOf (c .mode)) (unitRefusal (c .mode) (c .current)) w
-
-unfoldable pub begins : Which → Channel → Choice
-begins w c = beginBy (c .pending) (isOdd (c .chain)) (unitRefusal (c .mode) (c .current)) w
+keeper w c = keeping (requests (c .mode) (c .line)) (requestModeOf (c .mode)) w
 
 -- a unit in demand interleave, if it is a candidate
 unfoldable pub interleaves : Channel → Bool

@@ -1,18 +1,78 @@
-// What a channel's own registers choose: for the one that keeps the bus, and for a candidate.
+// What the rules ask of the registers, and what they intend for the channel that keeps the bus and for a candidate.
 ghost use mathlib.Core.Path.{_≡_};
-ghost use Rattle.choosing.specs.Channels.{keeper, begins, interleaves, isInTurn};
+ghost use mathlib.Core.Bool.{true};
+ghost use Rattle.facts.specs.First.{firstOf};
+ghost use Rattle.rules.specs.Rules.{isEnabled, isInterleaved, isInterleave, turnBy, beginning, fetchRefusals, refusedOr};
+ghost use Rattle.choosing.specs.Channels.{keeper, interleaves, isInTurn};
 use channel::Channel;
+use control::Served;
 use mode::RequestMode;
 use port::Which;
 use reload::Stage;
 use rules::Choice;
+use rules::Turn;
 
-// A channel that keeps the bus.
-pub fn keeper_choice(w: Which, c: Channel) -> Choice
+pub fn is_enabled(master: u16) -> bool
+    ensures { λ r. ⌜ r ≡ isEnabled master ⌝ }
+{
+    master & 1 == 1
+}
+
+pub fn is_interleaved(master: u16) -> bool
+    ensures { λ r. ⌜ r ≡ isInterleaved master ⌝ }
+{
+    (master >> 1) & 1 == 1
+}
+
+pub fn is_interleave(mode: RequestMode) -> bool
+    ensures { λ r. ⌜ r ≡ isInterleave mode ⌝ }
+{
+    match mode {
+        RequestMode::Single => false,
+        RequestMode::DemandHold => false,
+        RequestMode::DemandRelease => false,
+        RequestMode::DemandInterleave => true,
+    }
+}
+
+// Of two units in demand interleave the channel not served last comes next.
+fn other_turn(served: Served) -> Turn
+    ensures { λ r. ⌜ r ≡ turnBy true true true served ⌝ }
+{
+    match served {
+        Served::Nobody => Turn::Whose(Which::One),
+        Served::Last(w) => match w {
+            Which::One => Turn::Whose(Which::Two),
+            Which::Two => Turn::Whose(Which::One),
+        },
+    }
+}
+
+pub fn whose_turn(first: bool, second: bool, both: bool, served: Served) -> Turn
+    ensures { λ r. ⌜ r ≡ turnBy first second both served ⌝ }
+{
+    if first {
+        if second {
+            if both {
+                return other_turn(served);
+            }
+            return Turn::Whose(Which::One);
+        }
+        return Turn::Whose(Which::One);
+    }
+    if second {
+        Turn::Whose(Which::Two)
+    } else {
+        Turn::Nobodys
+    }
+}
+
+// Rule 4, for a channel that keeps the bus.
+pub fn keeper_intent(w: Which, c: Channel) -> Choice
     ensures { λ r. ⌜ r ≡ keeper w c ⌝ }
 {
     if request::is_requesting(c.mode, c.line) {
-        return rules::unit_choice(unit::unit_refusal(c.mode, c.current), w);
+        return Choice::Unit(w);
     }
     let mode = c.mode.request_mode();
     match mode {
@@ -23,20 +83,47 @@ pub fn keeper_choice(w: Which, c: Channel) -> Choice
     }
 }
 
-// A candidate begins its chain or does a unit.
-pub fn begin_choice(w: Which, c: Channel) -> Choice
-    ensures { λ r. ⌜ r ≡ begins w c ⌝ }
+// Rule 5: a candidate begins its chain or does a unit.
+pub fn begin_intent(pending: bool, w: Which) -> Choice
+    ensures { λ r. ⌜ r ≡ beginning pending w ⌝ }
 {
-    if c.pending {
-        return rules::fetch_choice(Stage::Reload, c.chain.is_odd(), w);
+    if pending {
+        Choice::Fetch(w, Stage::Reload)
+    } else {
+        Choice::Unit(w)
     }
-    rules::unit_choice(unit::unit_refusal(c.mode, c.current), w)
+}
+
+// A fetch, or its refusal.
+pub fn fetch_choice(stage: Stage, odd: bool, w: Which) -> Choice
+    ensures { λ r. ⌜ r ≡ refusedOr (firstOf (fetchRefusals odd stage)) (Choice.Fetch w stage) ⌝ }
+{
+    match stage {
+        Stage::Reload => {
+            if odd {
+                return Choice::Refused(6);
+            }
+            Choice::Fetch(w, Stage::Reload)
+        }
+        Stage::Entries(p) => Choice::Fetch(w, Stage::Entries(p)),
+    }
+}
+
+// A unit, or its refusal by a number.
+pub fn unit_choice(n: u8, w: Which) -> Choice
+    ensures { λ r. ⌜ r ≡ refusedOr n (Choice.Unit w) ⌝ }
+{
+    if n == 0 {
+        Choice::Unit(w)
+    } else {
+        Choice::Refused(n)
+    }
 }
 
 pub fn is_interleaving(c: Channel) -> bool
     ensures { λ r. ⌜ r ≡ interleaves c ⌝ }
 {
-    !c.pending & rules::is_interleave(c.mode.request_mode())
+    !c.pending & is_interleave(c.mode.request_mode())
 }
 
 // Whether a unit in demand interleave is what it would do now.

@@ -11,7 +11,7 @@ use Rattle.control.specs.declared.Chain.the-variants.{NoChain, Of}
 use Rattle.control.specs.declared.Bus.the-variants.{Free, Kept}
 use Rattle.control.specs.declared.Back.{Back}
 use Rattle.control.specs.declared.Back.the-variants.{Note, Bus}
-use Rattle.rules.specs.declared.Served.the-variants.{Last}
+use Rattle.control.specs.declared.Served.the-variants.{Last}
 use Rattle.control.specs.declared.Control.{Control}
 use Rattle.control.specs.Set.{_⟨chain≔_⟩, _⟨bus≔_⟩, _⟨note≔_⟩}
 

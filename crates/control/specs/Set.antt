@@ -3,7 +3,7 @@ use mathlib.Core.Bool.{Bool}
 use Rattle.control.specs.declared.Bus.{Bus}
 use Rattle.control.specs.declared.Chain.{Chain}
 use Rattle.control.specs.declared.Control.{Control}
-use Rattle.rules.specs.declared.Served.{Served}
+use Rattle.control.specs.declared.Served.{Served}
 
 infixl 90 _⟨chain≔_⟩
 infixl 90 _⟨bus≔_⟩

@@ -5,7 +5,6 @@ use mode::RequestMode;
 use port::Which;
 use reload::Next;
 use reload::Stage;
-use rules::Served;
 
 // A chain under way.
 pub enum Chain {
@@ -17,6 +16,12 @@ pub enum Chain {
 pub enum Bus {
     Free,
     Kept(Which),
+}
+
+// The channel of the latest unit.
+pub enum Served {
+    Nobody,
+    Last(Which),
 }
 
 // What belongs to no channel: the chain under way, the kept bus, the give-back note, and who was served last.

@@ -33,7 +33,7 @@ paper Idle = record { number = 0; name = idle; channel = 0; why = none }
 paper (GivenBack Note) = record { number = 0; name = given-back; channel = 0; why = none }
 paper (GivenBack Bus) = record { number = 0; name = given-back; channel = 0; why = none }
 paper (Holding w) = record { number = 0; name = holding; channel = channelNumber w; why = none }
-paper (Fetched w) = record { number = 0; name = fetched; channel = channelNumber w; why = none }
+paper (Fetched w d) = record { number = 0; name = fetched; channel = channelNumber w; why = none }
 paper (Dropped w) = record { number = 0; name = dropped; channel = channelNumber w; why = none }
-paper (Unit w why) = record { number = 0; name = unit; channel = channelNumber w; why = why }
+paper (Unit w d) = record { number = 0; name = unit; channel = channelNumber w; why = d .why }
 paper (Ended w) = record { number = 0; name = ended; channel = channelNumber w; why = none }

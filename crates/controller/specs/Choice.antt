@@ -1,41 +1,41 @@
--- Document 01, "Which step comes next": the six rules in their order, by the registers alone, refusals 6, 7 and 8 included.
--- Assumes nothing.
-use mathlib.Core.Bool.{Bool, true, false, _&&_}
+-- Document 01, "Which step comes next": what the rules ask of a controller's registers, and the choice. Assumes nothing.
+use mathlib.Core.Bool.{_&&_}
 use Rattle.port.specs.declared.Which.{Which}
+use Rattle.mode.specs.Mode.{requestModeOf}
 use Rattle.address.specs.Address.{isOdd}
+use Rattle.unit.specs.Unit.{unitRefusals}
 use Rattle.channel.specs.Candidate.{isCandidate}
-use Rattle.reload.specs.declared.Stage.{Stage}
-use Rattle.control.specs.declared.Chain.{Chain}
-use Rattle.control.specs.declared.Chain.the-variants.{NoChain, Of}
-use Rattle.control.specs.declared.Bus.{Bus}
-use Rattle.control.specs.declared.Bus.the-variants.{Free, Kept}
-use Rattle.rules.specs.declared.Served.{Served}
+use Rattle.request.specs.Request.{requests}
+use Rattle.board.specs.declared.Board.{Board}
 use Rattle.controller.specs.declared.Controller.{Controller}
 use Rattle.rules.specs.declared.Choice.{Choice}
-use Rattle.rules.specs.declared.Choice.the-variants.{Disabled, GiveBack, Idle}
 use Rattle.rules.specs.declared.Turn.{Turn}
-use Rattle.rules.specs.declared.Turn.the-variants.{Nobodys, Whose}
-use Rattle.rules.specs.Rules.{isEnabled, fetchBy, turnBy}
-use Rattle.choosing.specs.Channels.{keeper, begins, interleaves}
+use Rattle.rules.specs.Rules.{isEnabled, turnBy, Facts, Faults, choiceOf}
+use Rattle.choosing.specs.Channels.{interleaves}
 use Rattle.controller.specs.Controller.{at}
 
--- Rule 6. "Idle".
-abbrev pub candidateBy : Turn → Controller → Choice
-candidateBy Nobodys u = Idle
-candidateBy (Whose w) u = begins w (at w u)
+-- If both are units in demand interleave, the channel not served last; otherwise the lower numbered candidate.
+unfoldable pub turn : Controller → Turn
+turn u = turnBy (isCandidate (u .one)) (isCandidate (u .two)) (interleaves (u .one) && interleaves (u .two)) (u .control .served)
 
-unfoldable pub candidate : Controller → Choice
-candidate u =
-    candidateBy (turnBy (isCandidate (u .one)) (isCandidate (u .two)) (interleaves (u .one) && interleaves (u .two)) (u .control .served)) u
+abbrev pub factsOf : Controller → Facts
+factsOf u = record {
+  enabled = isEnabled (u .master);
+  chain = u .control .chain;
+  note = u .control .note;
+  bus = u .control .bus;
+  active = λ w. requests (at w u .mode) (at w u .line);
+  mode = λ w. requestModeOf (at w u .mode);
+  pending = λ w. at w u .pending;
+  turn = turn u;
+}
 
--- 1. Not enabled: nothing, "disabled". 2. A chain under way: fetch its next word. 3. A give-back note: clear it, "given back".
--- 4. A channel keeping the bus. 5. A candidate. 6. "Idle".
-abbrev pub choiceBy : Bool → Chain → Bool → Bus → Controller → Choice
-choiceBy false chain note bus u = Disabled
-choiceBy true (Of w stage) note bus u = fetchBy stage (isOdd (at w u .chain)) w
-choiceBy true NoChain true bus u = GiveBack
-choiceBy true NoChain false (Kept w) u = keeper w (at w u)
-choiceBy true NoChain false Free u = candidate u
+-- No rule of document 01 looks at the board.
+abbrev pub faultsOf : Board → Controller → Faults
+faultsOf b u = record {
+  oddTable = λ w. isOdd (at w u .chain);
+  unit = λ w. unitRefusals (at w u .mode) (at w u .current);
+}
 
-unfoldable pub choice : Controller → Choice
-choice u = choiceBy (isEnabled (u .master)) (u .control .chain) (u .control .note) (u .control .bus) u
+unfoldable pub choice : Board → Controller → Choice
+choice b u = choiceOf (factsOf u) (faultsOf b u)

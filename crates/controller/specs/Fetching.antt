@@ -15,6 +15,7 @@ use Rattle.control.specs.declared.Chain.the-variants.{NoChain}
 use Rattle.control.specs.declared.Control.{Control}
 use Rattle.controller.specs.declared.Controller.{Controller}
 use Rattle.controller.specs.declared.Stepped.{Stepped}
+use Rattle.controller.specs.declared.FetchAnswer.{FetchAnswer}
 use Rattle.controller.specs.declared.Answer.the-variants.{Fetched, Dropped}
 use Rattle.controller.specs.Set.{_⟨control≔_⟩}
 use Rattle.control.specs.Set.{_⟨chain≔_⟩}
@@ -26,10 +27,14 @@ abbrev pub fetchedBy : Which → Loaded → Controller → Stepped
 fetchedBy w l u = record {
   state = with w (l .channel)
       (u ⟨control≔ controlFetched (l .next) (isInterleaved (u .master)) (requests (l .channel .mode) (l .channel .line)) w (u .control) ⟩);
-  answer = Fetched w;
+  answer = Fetched w (record {});
 }
+
+-- EOP with a chain fetch drops the chain.
+unfoldable pub dropOf : Which → Controller → Stepped
+dropOf w u = record { state = with w (droppedOf (at w u)) (u ⟨control≔ droppedControl (u .control) ⟩); answer = Dropped w }
 
 -- One word a step; chaining reads memory.
 unfoldable pub fetchOf : Which → Stage → Bool → Controller → List ℕ → Stepped
-fetchOf w stage true u m = record { state = with w (droppedOf (at w u)) (u ⟨control≔ droppedControl (u .control) ⟩); answer = Dropped w }
+fetchOf w stage true u m = dropOf w u
 fetchOf w stage false u m = fetchedBy w (fetchedOf stage (valueIn Word m (number (at w u .chain))) (at w u)) u

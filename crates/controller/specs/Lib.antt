@@ -1,9 +1,7 @@
 pub mod Set
 pub mod Controller
 pub mod Choice
+pub mod Laws
 pub mod Fetching
 pub mod Step
 pub mod Answers
-pub mod Stride
-pub mod StrideLaws
-pub mod PairLaws

@@ -20,6 +20,7 @@ use Rattle.control.specs.declared.Bus.the-variants.{Free}
 use Rattle.control.specs.declared.Control.{Control}
 use Rattle.controller.specs.declared.Controller.{Controller}
 use Rattle.controller.specs.declared.Stepped.{Stepped}
+use Rattle.controller.specs.declared.Ran.{Ran}
 use Rattle.rules.specs.declared.Choice.{Choice}
 use Rattle.rules.specs.declared.Choice.the-variants.{Disabled, Refused, Fetch, GiveBack, Unit, Hold, Release, Idle}
 use Rattle.control.specs.declared.Back.{Back}
@@ -29,6 +30,7 @@ use Rattle.controller.specs.declared.Answer.the-variants as answer
 use Rattle.controller.specs.Set.{_⟨control≔_⟩}
 use Rattle.control.specs.After.{unendedControl, endedControl, heldControl, controlBy, backControl}
 use Rattle.controller.specs.Controller.{at, with}
+use Rattle.board.specs.Board.{boardOf}
 use Rattle.controller.specs.Choice.{choice}
 use Rattle.rules.specs.Rules.{isInterleaved}
 use Rattle.controller.specs.Fetching.{fetchOf}
@@ -43,6 +45,14 @@ outcome r z = record { stepped = r; spaces = z }
 
 abbrev pub says : Controller → Answer → Stepped
 says u a = record { state = u; answer = a }
+
+-- All that some steps leave: the last one's outcome, and how many they were.
+pub record RunOutcome : Type 0 where
+  pub last : Outcome
+  pub steps : ℕ
+
+abbrev pub ranAs : Ran → Spaces → RunOutcome
+ranAs r z = record { last = outcome (says (r .state) (r .answer)) z; steps = r .steps }
 
 -- ---- a unit
 
@@ -62,7 +72,7 @@ unitOf w eop u m =
     let why = reasonsOf m eop in
     says
     (with w (e .channel) (u ⟨control≔ controlBy (some why) (requestModeOf (c .mode)) (isInterleaved (u .master)) (e .chains) w (u .control) ⟩))
-    (answer.Unit w why)
+    (answer.Unit w (record { why = why }))
 
 -- the controller after an unended unit
 unfoldable pub goneOn : Which → Controller → Moved → Controller
@@ -111,4 +121,4 @@ performOf Release eop u z = outcome (backOf Bus u) z
 performOf Idle eop u z = outcome (says u answer.Idle) z
 
 unfoldable pub stepOf : Bool → Controller → Spaces → Outcome
-stepOf eop u z = performOf (choice u) eop u z
+stepOf eop u z = performOf (choice (boardOf z) u) eop u z

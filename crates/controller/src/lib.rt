@@ -1,16 +1,21 @@
 // The controller: its state, which step comes next, and the step.
 ghost use mathlib.Core.Path.{_≡_};
-ghost use mathlib.Core.Bool.{true, cond};
+ghost use mathlib.Core.Bool.{true};
+ghost use Rattle.facts.specs.First.{firstOf};
 ghost use Rattle.space.specs.Space.{spaces};
-ghost use Rattle.port.specs.Ports.{other};
+ghost use Rattle.rules.specs.Rules.{beginning, turned, intentBy, intentOf, refusals, refusedOr};
+ghost use Rattle.choosing.specs.Channels.{keeper};
+ghost use Rattle.mode.specs.Mode.{requestModeOf};
+ghost use Rattle.address.specs.Address.{isOdd};
+ghost use Rattle.unit.specs.Unit.{unitRefusal};
+ghost use Rattle.chain.specs.Chaining.{fetchedOf};
 ghost use Rattle.controller.specs.Set.{_⟨control≔_⟩};
 ghost use Rattle.controller.specs.Controller.{at, with};
-ghost use Rattle.choosing.specs.Channels.{keeper, begins};
-ghost use Rattle.controller.specs.Choice.{candidate, choiceBy, choice};
-ghost use Rattle.mode.specs.Mode.{requestModeOf};
-ghost use Rattle.controller.specs.Step.{outcome, workOf, goneOn, endedAfter, unitOf, holdOf, backOf, stepOf};
-ghost use Rattle.controller.specs.Stride.{strode, once, takeTurns, pairOf, rested, fetchesBy, strideBy, strideOf};
-ghost use Rattle.rules.specs.declared.Choice.the-variants as choice;
+ghost use Rattle.controller.specs.Choice.{turn, factsOf, faultsOf, choice};
+ghost use Rattle.controller.specs.Fetching.{fetchedBy, dropOf, fetchOf};
+ghost use Rattle.controller.specs.Step.{outcome, workOf, goneOn, endedAfter, unitOf, holdOf, backOf, performOf, stepOf};
+use board::Board;
+use chain::Loaded;
 use channel::Channel;
 use comparing::Compared;
 use control::Back;
@@ -23,9 +28,10 @@ use reasons::Reasons;
 use reload::Stage;
 use rules::Choice;
 use rules::Turn;
+use space::MemoryAddress;
+use space::Width;
 use unit::Moved;
 use unit::Work;
-use units::Pair;
 
 pub struct Controller {
     pub pointer: u16,
@@ -35,15 +41,23 @@ pub struct Controller {
     pub two: Channel,
 }
 
+// What the answer of a unit tells.
+pub struct UnitAnswer {
+    pub why: Reasons,
+}
+
+// What the answer of a fetch tells: nothing yet.
+pub struct FetchAnswer {}
+
 pub enum Answer {
     Refused(u8),
     Disabled,
     Idle,
     GivenBack(Back),
     Holding(Which),
-    Fetched(Which),
+    Fetched(Which, FetchAnswer),
     Dropped(Which),
-    Unit(Which, Reasons),
+    Unit(Which, UnitAnswer),
     Ended(Which),
 }
 
@@ -52,14 +66,15 @@ pub struct Stepped {
     pub answer: Answer,
 }
 
-// Steps taken at once: what the last leaves and answers, and how many they were.
-pub struct Strode {
+// What the last of some steps leaves and answers, and how many they were.
+pub struct Ran {
     pub state: Controller,
     pub answer: Answer,
     pub steps: u32,
 }
 
-fn work_of(c: Channel) -> Work
+// The registers that a channel's unit works on.
+pub fn work_of(c: Channel) -> Work
     ensures { λ r. ⌜ r ≡ workOf c ⌝ }
 {
     let set = c.current;
@@ -110,22 +125,24 @@ impl Controller {
         self.with_channel(w, c)
     }
 
+    // ---- which step comes next
+
     fn begin(self, w: Which) -> Choice
-        ensures { λ r. ⌜ r ≡ begins w (at w self) ⌝ }
+        ensures { λ r. ⌜ r ≡ beginning (at w self .pending) w ⌝ }
     {
         match w {
-            Which::One => choosing::begin_choice(Which::One, self.one),
-            Which::Two => choosing::begin_choice(Which::Two, self.two),
+            Which::One => choosing::begin_intent(self.one.pending, Which::One),
+            Which::Two => choosing::begin_intent(self.two.pending, Which::Two),
         }
     }
 
-    fn candidate_choice(self) -> Choice
-        ensures { λ r. ⌜ r ≡ candidate self ⌝ }
+    fn candidate_intent(self) -> Choice
+        ensures { λ r. ⌜ r ≡ turned (turn self) (factsOf self) ⌝ }
     {
         let both = choosing::is_interleaving(self.one) & choosing::is_interleaving(self.two);
         let control = self.control;
         let served = control.served;
-        let turn = rules::whose_turn(
+        let turn = choosing::whose_turn(
             self.one.is_candidate(),
             self.two.is_candidate(),
             both,
@@ -141,19 +158,19 @@ impl Controller {
         ensures { λ r. ⌜ r ≡ keeper w (at w self) ⌝ }
     {
         match w {
-            Which::One => choosing::keeper_choice(Which::One, self.one),
-            Which::Two => choosing::keeper_choice(Which::Two, self.two),
+            Which::One => choosing::keeper_intent(Which::One, self.one),
+            Which::Two => choosing::keeper_intent(Which::Two, self.two),
         }
     }
 
     // Rules 2 to 6.
-    fn enabled_choice(self) -> Choice
-        ensures { λ r. ⌜ r ≡ choiceBy true (self .control .chain) (self .control .note) (self .control .bus) self ⌝ }
+    fn enabled_intent(self) -> Choice
+        ensures { λ r. ⌜ r ≡ intentBy true (self .control .chain) (self .control .note) (self .control .bus) (factsOf self) ⌝ }
     {
         let control = self.control;
         let chain = control.chain;
         match chain {
-            Chain::Of(w, stage) => rules::fetch_choice(stage, self.channel(w).chain.is_odd(), w),
+            Chain::Of(w, stage) => Choice::Fetch(w, stage),
             Chain::NoChain => {
                 if control.note {
                     return Choice::GiveBack;
@@ -161,132 +178,120 @@ impl Controller {
                 let bus = control.bus;
                 match bus {
                     Bus::Kept(w) => self.keeper(w),
-                    Bus::Free => self.candidate_choice(),
+                    Bus::Free => self.candidate_intent(),
                 }
             }
         }
     }
 
-    // Which step comes next: the rules in their order.
-    pub fn choose(self) -> Choice
-        ensures { λ r. ⌜ r ≡ choice self ⌝ }
+    // What the rules intend, in their order.
+    fn intent(self) -> Choice
+        ensures { λ r. ⌜ r ≡ intentOf (factsOf self) ⌝ }
     {
-        if rules::is_enabled(self.master) {
-            return self.enabled_choice();
+        if choosing::is_enabled(self.master) {
+            return self.enabled_intent();
         }
         Choice::Disabled
     }
 
-    // Words of a chain, or its end by EOP.
-    fn fetch(self, w: Which, stage: Stage, left: u32, eop: bool, memory: &[u8]) -> Strode
-        ensures { λ r. ⌜ r ≡ fetchesBy eop w stage left self (now (memory .entry)) ⌝ }
+    fn has_odd_table(self, w: Which) -> bool
+        ensures { λ r. ⌜ r ≡ isOdd (at w self .chain) ⌝ }
     {
-        let c = self.channel(w);
-        let k = self.control;
-        if eop {
-            // Here and not in a function of `control`: with that, a word of a chain took 3 % more instructions.
-            let bus = k.bus;
-            let served = k.served;
-            let next = Control {
-                chain: Chain::NoChain,
-                bus,
-                note: k.note,
-                served,
-            };
-            return Strode {
-                state: self.with_both(w, chain::drop_chain(c), next),
-                answer: Answer::Dropped(w),
-                steps: 1,
-            };
+        match w {
+            Which::One => self.one.chain.is_odd(),
+            Which::Two => self.two.chain.is_odd(),
         }
-        let l = fetches::fetch_on(stage, left, c, memory);
+    }
+
+    fn unit_refusal(self, w: Which) -> u8
+        ensures { λ r. ⌜ r ≡ unitRefusal (at w self .mode) (at w self .current) ⌝ }
+    {
+        match w {
+            Which::One => unit::unit_refusal(self.one.mode, self.one.current),
+            Which::Two => unit::unit_refusal(self.two.mode, self.two.current),
+        }
+    }
+
+    // What the rules intend, or its first refusal. No rule of document 01 looks at the board.
+    fn unless_refused(self, board: Board, intent: Choice) -> Choice
+        ensures { λ r. ⌜ r ≡ refusedOr (firstOf (refusals intent (faultsOf board self))) intent ⌝ }
+    {
+        match intent {
+            Choice::Disabled => Choice::Disabled,
+            Choice::Refused(n) => Choice::Refused(n),
+            Choice::Fetch(w, stage) => choosing::fetch_choice(stage, self.has_odd_table(w), w),
+            Choice::GiveBack => Choice::GiveBack,
+            Choice::Unit(w) => choosing::unit_choice(self.unit_refusal(w), w),
+            Choice::Hold(w) => Choice::Hold(w),
+            Choice::Release => Choice::Release,
+            Choice::Idle => Choice::Idle,
+        }
+    }
+
+    // Which step comes next: the first refusal of what the rules intend, or the intent.
+    pub fn choose(self, board: Board) -> Choice
+        ensures { λ r. ⌜ r ≡ choice board self ⌝ }
+    {
+        self.unless_refused(board, self.intent())
+    }
+
+    // ---- a chain's word
+
+    // EOP with a fetch: the chain is dropped.
+    pub fn drop_chain(self, w: Which) -> Controller
+        ensures { λ r. ⌜ r ≡ dropOf w self .state ⌝ }
+    {
+        let k = self.control;
+        let bus = k.bus;
+        let served = k.served;
+        let next = Control {
+            chain: Chain::NoChain,
+            bus,
+            note: k.note,
+            served,
+        };
+        self.with_both(w, chain::drop_chain(self.channel(w)), next)
+    }
+
+    // The controller after a word of a chain.
+    pub fn settle_fetch(self, w: Which, l: Loaded) -> Controller
+        ensures { λ r. ⌜ r ≡ fetchedBy w l self .state ⌝ }
+    {
         let d = l.channel;
         let next = l.next;
+        let k = self.control;
         let active = request::is_requesting(d.mode, d.line);
         let after = control::control_fetched(
             next,
-            rules::is_interleaved(self.master),
+            choosing::is_interleaved(self.master),
             active,
             w,
             k,
         );
-        Strode {
-            state: self.with_both(w, d, after),
-            answer: Answer::Fetched(w),
-            steps: l.words,
-        }
+        self.with_both(w, d, after)
     }
 
-    // Two channels in demand interleave take turns; CPU interleave set would give the bus back between them. The mode of the one that
-    // comes first is looked at first, since it mostly tells.
-    fn take_turns(self, w: Which) -> bool
-        ensures { λ r. ⌜ r ≡ takeTurns self ⌝ }
+    // The next word of a chain, or its end by EOP.
+    fn fetch(self, w: Which, stage: Stage, eop: bool, memory: &[u8]) -> Stepped
+        ensures { λ r. ⌜ r ≡ fetchOf w stage eop self (now (memory .entry)) ⌝ }
     {
-        if rules::is_interleave(self.request_mode(w)) {
-            return !rules::is_interleaved(self.master)
-                & (choosing::is_in_turn(self.one) & choosing::is_in_turn(self.two));
+        if eop {
+            return Stepped {
+                state: self.drop_chain(w),
+                answer: Answer::Dropped(w),
+            };
         }
-        false
-    }
-
-    // The registers that the channels' units work on, and no whole channel, since a copy costs.
-    fn pair(self, w: Which) -> Pair
-        ensures { λ r. ⌜ r ≡ pairOf w self ⌝ }
-    {
-        let one = work_of(self.one);
-        let two = work_of(self.two);
-        match w {
-            Which::One => Pair {
-                which: w,
-                work: one,
-                other: two,
-            },
-            Which::Two => Pair {
-                which: w,
-                work: two,
-                other: one,
-            },
+        let c = self.channel(w);
+        let word = space::read_memory(memory, MemoryAddress(c.chain.number()), Width::Word);
+        Stepped {
+            state: self.settle_fetch(w, chain::fetch(stage, word, c)),
+            answer: Answer::Fetched(w, FetchAnswer {}),
         }
     }
 
-    // A channel that rests has the registers that its latest unit left.
-    fn rest(mut self, w: Which, k: Work) -> Controller
-        ensures { λ r. ⌜ r ≡ rested w k self ⌝ }
-    {
-        let set = k.set;
-        let compared = k.kept;
-        let m = Moved {
-            set,
-            compared,
-            tc: false,
-        };
-        match w {
-            Which::One => {
-                let c = self.one.with_moved(m);
-                self.one = c;
-                self
-            }
-            Which::Two => {
-                let c = self.two.with_moved(m);
-                self.two = c;
-                self
-            }
-        }
-    }
+    // ---- a unit
 
-    // The channel whose unit is not the last rests; alone it has done none.
-    fn rest_other(self, both: bool, w: Which, k: Work) -> Controller
-        ensures { λ r. ⌜ r ≡ cond both (rested (other w) k self) self ⌝ }
-    {
-        let mut next = self;
-        if both {
-            let rested = self.rest(port::other(w), k);
-            next = rested;
-        }
-        next
-    }
-
-    fn request_mode(self, w: Which) -> RequestMode
+    pub fn request_mode(self, w: Which) -> RequestMode
         ensures { λ r. ⌜ r ≡ requestModeOf (at w self .mode) ⌝ }
     {
         match w {
@@ -300,7 +305,7 @@ impl Controller {
         ensures { λ r. ⌜ r ≡ goneOn w self m ⌝ }
     {
         let k = self.control;
-        let cpu = rules::is_interleaved(self.master);
+        let cpu = choosing::is_interleaved(self.master);
         let next = control::unended_control(self.request_mode(w), cpu, w, k);
         self.control = next;
         match w {
@@ -329,7 +334,7 @@ impl Controller {
     }
 
     // A channel after its unit, and the controller with it.
-    fn settle_unit(self, w: Which, eop: bool, m: Moved) -> Stepped
+    pub fn settle_unit(self, w: Which, eop: bool, m: Moved) -> Stepped
         ensures { λ r. ⌜ r ≡ unitOf w eop self m ⌝ }
     {
         let why = Reasons {
@@ -347,121 +352,98 @@ impl Controller {
         }
         Stepped {
             state: next,
-            answer: Answer::Unit(w, why),
+            answer: Answer::Unit(w, UnitAnswer { why }),
         }
     }
 
+    fn unit(self, w: Which, eop: bool, memory: &mut [u8], io: &mut [u8]) -> Stepped
+        ensures { λ r. ⌜ outcome r (spaces (now (memory .exit)) (now (io .exit))) ≡ performOf (Choice.Unit w) eop self (spaces (now (memory .entry)) (now (io .entry))) ⌝ }
+    {
+        let m = unit::carry(work_of(self.channel(w)), memory, io);
+        self.settle_unit(w, eop, m)
+    }
+
+    // ---- holding, and given back
+
     // EOP while holding ends the operation.
-    fn hold(self, w: Which, eop: bool) -> Strode
-        ensures { λ r. ⌜ r ≡ once (holdOf w eop self) ⌝ }
+    pub fn end_held(self, w: Which) -> Controller
+        ensures { λ r. ⌜ r ≡ holdOf w true self .state ⌝ }
+    {
+        let e = self.channel(w).end(
+            w,
+            Reasons {
+                tc: false,
+                mc: false,
+                eop: true,
+            },
+        );
+        let d = e.channel;
+        let k = self.control;
+        self.with_both(w, d, control::held_control(e.chains, w, k))
+    }
+
+    fn hold(self, w: Which, eop: bool) -> Stepped
+        ensures { λ r. ⌜ r ≡ holdOf w eop self ⌝ }
     {
         if eop {
-            let e = self.channel(w).end(
-                w,
-                Reasons {
-                    tc: false,
-                    mc: false,
-                    eop: true,
-                },
-            );
-            let d = e.channel;
-            let k = self.control;
-            return Strode {
-                state: self.with_both(w, d, control::held_control(e.chains, w, k)),
+            return Stepped {
+                state: self.end_held(w),
                 answer: Answer::Ended(w),
-                steps: 1,
             };
         }
-        Strode {
+        Stepped {
             state: self,
             answer: Answer::Holding(w),
-            steps: 1,
         }
     }
 
     // The note is cleared, or the bus given back.
-    fn give_back(mut self, back: Back) -> Strode
-        ensures { λ r. ⌜ r ≡ once (backOf back self) ⌝ }
+    pub fn give_back(mut self, back: Back) -> Controller
+        ensures { λ r. ⌜ r ≡ backOf back self .state ⌝ }
     {
         let k = self.control;
         let next = control::give_back(back, k);
         self.control = next;
-        Strode {
-            state: self,
-            answer: Answer::GivenBack(back),
-            steps: 1,
-        }
+        self
     }
 
-    // Units that follow each other, of one channel or of two in turn.
-    fn units(self, w: Which, left: u32, eop: bool, memory: &mut [u8], io: &mut [u8]) -> Strode
-        ensures { λ r. ⌜ strode r (spaces (now (memory .exit)) (now (io .exit))) ≡ strideBy (choice.Unit w) left eop self (spaces (now (memory .entry)) (now (io .entry))) ⌝ }
-    {
-        let both = self.take_turns(w);
-        let limit = units::limit(both, self.request_mode(w), left, eop);
-        let k = units::carry_on(self.pair(w), both, limit, memory, io);
-        let v = k.which;
-        let m = k.moved;
-        let rests = k.rests;
-        let s = self.rest_other(both, v, rests).settle_unit(v, eop, m);
-        let state = s.state;
-        let answer = s.answer;
-        Strode {
-            state,
-            answer,
-            steps: k.units,
-        }
-    }
+    // ---- a step
 
     // What was chosen is done.
-    fn perform(
-        self,
-        choice: Choice,
-        left: u32,
-        eop: bool,
-        memory: &mut [u8],
-        io: &mut [u8],
-    ) -> Strode
-        ensures { λ r. ⌜ strode r (spaces (now (memory .exit)) (now (io .exit))) ≡ strideBy choice left eop self (spaces (now (memory .entry)) (now (io .entry))) ⌝ }
+    fn perform(self, choice: Choice, eop: bool, memory: &mut [u8], io: &mut [u8]) -> Stepped
+        ensures { λ r. ⌜ outcome r (spaces (now (memory .exit)) (now (io .exit))) ≡ performOf choice eop self (spaces (now (memory .entry)) (now (io .entry))) ⌝ }
     {
         match choice {
-            Choice::Disabled => Strode {
+            Choice::Disabled => Stepped {
                 state: self,
                 answer: Answer::Disabled,
-                steps: 1,
             },
-            Choice::Refused(n) => Strode {
+            Choice::Refused(n) => Stepped {
                 state: self,
                 answer: Answer::Refused(n),
-                steps: 1,
             },
-            Choice::Fetch(w, stage) => self.fetch(w, stage, left, eop, memory),
-            Choice::GiveBack => self.give_back(Back::Note),
-            Choice::Unit(w) => self.units(w, left, eop, memory, io),
+            Choice::Fetch(w, stage) => self.fetch(w, stage, eop, memory),
+            Choice::GiveBack => Stepped {
+                state: self.give_back(Back::Note),
+                answer: Answer::GivenBack(Back::Note),
+            },
+            Choice::Unit(w) => self.unit(w, eop, memory, io),
             Choice::Hold(w) => self.hold(w, eop),
-            Choice::Release => self.give_back(Back::Bus),
-            Choice::Idle => Strode {
+            Choice::Release => Stepped {
+                state: self.give_back(Back::Bus),
+                answer: Answer::GivenBack(Back::Bus),
+            },
+            Choice::Idle => Stepped {
                 state: self,
                 answer: Answer::Idle,
-                steps: 1,
             },
         }
-    }
-
-    // Up to so many steps at once.
-    pub fn stride(self, left: u32, eop: bool, memory: &mut [u8], io: &mut [u8]) -> Strode
-        ensures { λ r. ⌜ strode r (spaces (now (memory .exit)) (now (io .exit))) ≡ strideOf left eop self (spaces (now (memory .entry)) (now (io .entry))) ⌝ }
-    {
-        self.perform(self.choose(), left, eop, memory, io)
     }
 
     // One step, with EOP given or not.
     pub fn step(self, eop: bool, memory: &mut [u8], io: &mut [u8]) -> Stepped
         ensures { λ r. ⌜ outcome r (spaces (now (memory .exit)) (now (io .exit))) ≡ stepOf eop self (spaces (now (memory .entry)) (now (io .entry))) ⌝ }
     {
-        let s = self.stride(1, eop, memory, io);
-        let state = s.state;
-        let answer = s.answer;
-        Stepped { state, answer }
+        self.perform(self.choose(board::lends(memory, io)), eop, memory, io)
     }
 }

@@ -5,9 +5,8 @@ use mathlib.Core.List.{List}
 use Prim.Native.Nat.{ℕ}
 use Rattle.space.specs.Space.{Spaces, spaces}
 use Rattle.controller.specs.declared.Stepped.{Stepped}
-use Rattle.controller.specs.Step.{Outcome, outcome}
-use Rattle.running.specs.declared.Ran.{Ran}
-use Rattle.running.specs.Run.{RunOutcome, ranAs}
+use Rattle.controller.specs.Step.{Outcome, outcome, RunOutcome, ranAs}
+use Rattle.controller.specs.declared.Ran.{Ran}
 use Rattle.udc.proofs.reset.Reads as reset
 use Rattle.controller.proofs.Controller.step.Reads as step
 use Rattle.pointer.proofs.read_pointer.Reads as pointer-read

@@ -4,3 +4,4 @@ pub mod Masks
 pub mod Lists
 pub mod Look
 pub mod Rows
+pub mod First

@@ -33,9 +33,9 @@ stepNumber Idle = packed 1 0
 stepNumber (GivenBack Note) = packed 2 0
 stepNumber (GivenBack Bus) = packed 3 0
 stepNumber (Holding w) = packed 4 (channelNumber w)
-stepNumber (Fetched w) = packed 5 (channelNumber w)
+stepNumber (Fetched w d) = packed 5 (channelNumber w)
 stepNumber (Dropped w) = packed 6 (channelNumber w)
-stepNumber (Unit w why) = packed 7 (unitHalf (channelNumber w) why)
+stepNumber (Unit w d) = packed 7 (unitHalf (channelNumber w) (d .why))
 stepNumber (Ended w) = packed 8 (channelNumber w)
 
 -- The number of steps stands above the last answer's 32 bits.

@@ -49,9 +49,9 @@ pub fn step_number(a: Answer) -> u32
             Back::Bus => pack(3, 0),
         },
         Answer::Holding(w) => pack(4, channel_number(w) as u16),
-        Answer::Fetched(w) => pack(5, channel_number(w) as u16),
+        Answer::Fetched(w, _) => pack(5, channel_number(w) as u16),
         Answer::Dropped(w) => pack(6, channel_number(w) as u16),
-        Answer::Unit(w, why) => pack(7, unit_half(channel_number(w), why)),
+        Answer::Unit(w, d) => pack(7, unit_half(channel_number(w), d.why)),
         Answer::Ended(w) => pack(8, channel_number(w) as u16),
     }
 }

@@ -6,10 +6,10 @@ use commanding::Writing;
 use commanding::Written;
 use controller::Answer;
 use controller::Controller;
+use controller::Ran;
 use libc::STDOUT_FILENO;
 use port::Which;
 use reading::Reading;
-use running::Ran;
 use space::Direction;
 use space::IoAddress;
 use space::MemoryAddress;
@@ -131,7 +131,7 @@ fn is_first(w: Which) -> bool {
 // A unit of channel 1 with just these end reasons.
 fn is_unit(a: Answer, tc: bool, mc: bool) -> bool {
     match a {
-        Answer::Unit(w, why) => is_first(w) & (why.tc == tc) & (why.mc == mc) & !why.eop,
+        Answer::Unit(w, d) => is_first(w) & (d.why.tc == tc) & (d.why.mc == mc) & !d.why.eop,
         _ => false,
     }
 }

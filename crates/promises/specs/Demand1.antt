@@ -4,7 +4,7 @@ use mathlib.Core.Path.{_≡_, refl, sym, ap, _∙_}
 use mathlib.Core.Bool.{Bool, true, false, not, cond, _&&_, _||_}
 use mathlib.Core.Logic.{_⊎_, inl, inr, _≢_, _↔_}
 use mathlib.Core.List.{List, [], _∷_}
-use Prim.Native.Nat.{ℕ, zero, suc}
+use Prim.Native.Nat.{ℕ}
 use lib.Dec.{eqb}
 use Rattle.facts.specs.Look.{look}
 use Rattle.space.specs.Space.{Spaces}
@@ -18,27 +18,10 @@ use Rattle.writable.specs.Writable.{writePort}
 use Rattle.command.specs.declared.Command.{Command}
 use Rattle.command.specs.declared.Command.the-variants.{Reset, Interrupts, SoftwareRequest, Flip, HardwareMask, StartChain, Unknown}
 use Rattle.command.specs.Command.{commandOf}
-use Rattle.mode.specs.declared.Mode.{Mode}
-use Rattle.mode.specs.declared.RequestMode.{RequestMode}
-use Rattle.mode.specs.declared.RequestMode.the-variants.{Single, DemandHold, DemandRelease, DemandInterleave}
-use Rattle.mode.specs.Mode.{operationOf, isFlipped, requestModeOf}
-use Rattle.operation.specs.Operation.{carried}
-use Rattle.address.specs.declared.Set.{Set}
-use Rattle.address.specs.Address.{isOdd}
-use Rattle.unit.specs.Unit.{oddWord, refusalOf, unitRefusal}
 use Rattle.channel.specs.declared.Channel.{Channel}
-use Rattle.channel.specs.Candidate.{isCandidate}
-use Rattle.request.specs.Request.{requests}
 use Rattle.reload.specs.declared.Stage.{Stage}
-use Rattle.reload.specs.declared.Stage.the-variants.{Reload, Entries}
-use Rattle.control.specs.declared.Chain.{Chain}
-use Rattle.control.specs.declared.Chain.the-variants.{NoChain}
-use Rattle.control.specs.declared.Chain.the-variants as chain
-use Rattle.control.specs.declared.Bus.{Bus}
-use Rattle.control.specs.declared.Bus.the-variants.{Free, Kept}
-use Rattle.rules.specs.declared.Turn.{Turn}
-use Rattle.rules.specs.declared.Turn.the-variants.{Nobodys, Whose}
 use Rattle.controller.specs.declared.Controller.{Controller}
+use Rattle.reload.specs.declared.Stage.the-variants.{Reload}
 use Rattle.rules.specs.declared.Choice.{Choice}
 use Rattle.rules.specs.declared.Choice.the-variants as chosen
 use Rattle.controller.specs.declared.Answer.{Answer}
@@ -46,10 +29,15 @@ use Rattle.controller.specs.declared.Answer.the-variants as answer
 use Rattle.controller.specs.Answers.{Paper, paper}
 use Rattle.controller.specs.Controller.{at}
 use Rattle.acknowledging.specs.Laws.{refused-keeps}
-use Rattle.choosing.specs.Channels.{keeper, begins, interleaves}
-use Rattle.controller.specs.Choice.{candidateBy, candidate, choiceBy, choice}
-use Rattle.rules.specs.Rules.{isEnabled, fetchBy, unitBy, keeperBy, beginBy, turnBy}
-use Rattle.controller.specs.Fetching.{fetchOf}
+use Rattle.facts.specs.First.{firstOf, Exactly, exactly}
+use Rattle.board.specs.Board.{boardOf}
+use Rattle.rules.specs.Rules.{intentOf, refusals}
+use Rattle.rules.specs.View.{Intends, intended}
+use Rattle.rules.specs.View.Intends.{disabled, goes-on, noted, keeps, holds, releases, begins-chain, begins-unit, idle}
+use Rattle.rules.specs.View.Because.{as-intended, refused}
+use Rattle.controller.specs.Choice.{factsOf, faultsOf, choice}
+use Rattle.controller.specs.Laws.{Chosen, chosen as why}
+use Rattle.controller.specs.Fetching.{dropOf, fetchOf}
 use Rattle.controller.specs.Step.{Outcome, outcome, says, unitOf, holdOf, performOf, stepOf}
 use Rattle.reading.specs.declared.Reading.{Reading}
 use Rattle.commanding.specs.declared.Written.{Written}
@@ -64,41 +52,8 @@ use Rattle.udc.specs.declared.Lined.{Lined}
 use Rattle.acknowledging.specs.declared.Acknowledged.{Acknowledged}
 use Rattle.udc.specs.Lines.{linedAt}
 use Rattle.acknowledging.specs.Acknowledge.{interrupts, isVectorless, answered, acknowledgedAt, acknowledgeBy, acknowledgeOf}
-use Rattle.running.specs.Run.{RunOutcome}
 use Rattle.udc.specs.Answers.{paperLine}
 use Rattle.acknowledging.specs.Answers.{PaperAck, paperAck}
-
--- ---- refusals in order
-
--- The number of the first condition that holds, or 0.
-abbrev pub firstOf : List (Bool × ℕ) → ℕ
-firstOf [] = 0
-firstOf (e ∷ es) = cond (e .0) (e .1) (firstOf es)
-
--- n is given: its condition holds, and no earlier one does.
-abbrev pub Given : List (Bool × ℕ) → ℕ → Type 0
-Given [] n = ⊥
-Given (e ∷ es) n = ((e .0 ≡ true) × (n ≡ e .1)) ⊎ ((e .0 ≡ false) × Given es n)
-
-given-first : (t : List (Bool × ℕ)) (n : ℕ) → Given t n → firstOf t ≡ n
-given-first (e ∷ es) n (inl h) = ap (λ (b : Bool). cond b (e .1) (firstOf es)) (h .0) ∙ sym (h .1)
-given-first (e ∷ es) n (inr h) = ap (λ (b : Bool). cond b (e .1) (firstOf es)) (h .0) ∙ given-first es n (h .1)
-
-first-given : (t : List (Bool × ℕ)) (n : ℕ) → n ≢ 0 → firstOf t ≡ n → Given t n
-first-given [] n z e = absurd (z (sym e))
-first-given (x ∷ es) n z e = go (x .0) refl (first-given es n z)
-  where
-    go : (b : Bool) → x .0 ≡ b → (firstOf es ≡ n → Given es n) → Given (x ∷ es) n
-    go true q more = inl (q, sym e ∙ ap (λ (b : Bool). cond b (x .1) (firstOf es)) q)
-    go false q more = inr (q, more (sym (ap (λ (b : Bool). cond b (x .1) (firstOf es)) q) ∙ e))
-
--- A call's number is one of its table's or 0, and each is given exactly when its condition holds and no earlier one does.
-pub record Exactly (number : ℕ) (t : List (Bool × ℕ)) : Type 0 where
-  pub is : number ≡ firstOf t
-  pub when : (n : ℕ) → n ≢ 0 → number ≡ n ↔ Given t n
-
-exactly : (number : ℕ) (t : List (Bool × ℕ)) → number ≡ firstOf t → Exactly number t
-exactly number t e = record { is = e; when = λ n z. ((λ q. first-given t n z (sym e ∙ q)), (λ g. e ∙ given-first t n g)) }
 
 -- ---- register read
 
@@ -303,157 +258,55 @@ acknowledge u =
 
 -- ---- step
 
--- What the rules would have done next, before any refusal.
-pub data Intent : Type 0 where
-  nothing : Intent
-  fetch : Which → Stage → Intent
-  unit : Which → Intent
+-- 6 to 8, of what the rules intend
+abbrev pub stepTable : Controller → Spaces → List (Bool × ℕ)
+stepTable u z = refusals (intentOf (factsOf u)) (faultsOf (boardOf z) u)
 
-abbrev pub keeps : Bool → Which → Intent
-keeps true w = unit w
-keeps false w = nothing
+module _ (eop : Bool) (u : Controller) (z : Spaces) where
+  abbrev number : Choice → ℕ
+  number c = paper (performOf c eop u z .stepped .answer) .number
 
-abbrev pub begun : Bool → Which → Intent
-begun true w = fetch w Reload
-begun false w = unit w
+  fetch-number : (w : Which) (s : Stage) → number (chosen.Fetch w s) ≡ 0
+  unfolding performOf dropOf fetchOf
+  fetch-number w s = go eop
+    where
+      go : (b : Bool) → paper (fetchOf w s b u (z .memory) .answer) .number ≡ 0
+      go true = refl
+      go false = refl
 
-abbrev pub turned : Turn → Controller → Intent
-turned Nobodys u = nothing
-turned (Whose w) u = begun (at w u .pending) w
+  hold-number : (w : Which) → number (chosen.Hold w) ≡ 0
+  unfolding performOf holdOf
+  hold-number w = go eop
+    where
+      go : (b : Bool) → paper (holdOf w b u .answer) .number ≡ 0
+      go true = refl
+      go false = refl
 
-abbrev pub candidates : Controller → Turn
-candidates u = turnBy (isCandidate (u .one)) (isCandidate (u .two)) (interleaves (u .one) && interleaves (u .two)) (u .control .served)
+  -- what is intended has no number
+  unrefused : {c : Choice} → Intends (factsOf u) c → number c ≡ 0
+  unfolding performOf unitOf
+  unrefused (disabled e) = refl
+  unrefused (goes-on w s e c) = fetch-number w s
+  unrefused (noted e c n) = refl
+  unrefused (keeps w k) = refl
+  unrefused (holds w k h) = hold-number w
+  unrefused (releases w k h) = refl
+  unrefused (begins-chain w t p) = fetch-number w Reload
+  unrefused (begins-unit w t p) = refl
+  unrefused (idle t) = refl
 
-abbrev pub intentBy : Bool → Chain → Bool → Bus → Controller → Intent
-intentBy false chain note bus u = nothing
-intentBy true (chain.Of w s) note bus u = fetch w s
-intentBy true NoChain true bus u = nothing
-intentBy true NoChain false (Kept w) u = keeps (requests (at w u .mode) (at w u .line)) w
-intentBy true NoChain false Free u = turned (candidates u) u
-
-abbrev pub intent : Controller → Intent
-intent u = intentBy (isEnabled (u .master)) (u .control .chain) (u .control .note) (u .control .bus) u
-
--- 6: first fetch of a chain from an odd address
-abbrev pub oddStart : Intent → Controller → Bool
-oddStart nothing u = false
-oddStart (fetch w Reload) u = isOdd (at w u .chain)
-oddStart (fetch w (Entries p)) u = false
-oddStart (unit w) u = false
-
--- 7: unit with operation 2, 3, 6, 7, A or B
-abbrev pub notCarried : Intent → Controller → Bool
-notCarried nothing u = false
-notCarried (fetch w s) u = false
-notCarried (unit w) u = not (carried (operationOf (at w u .mode)))
-
--- 8: unit with a word side at an odd address that it uses
-abbrev pub oddSide : Intent → Controller → Bool
-oddSide nothing u = false
-oddSide (fetch w s) u = false
-oddSide (unit w) u = oddWord (operationOf (at w u .mode)) (isFlipped (at w u .mode)) (at w u .current)
-
-abbrev pub stepTable : Controller → List (Bool × ℕ)
-stepTable u = (oddStart (intent u) u, 6) ∷ (notCarried (intent u) u, 7) ∷ (oddSide (intent u) u, 8) ∷ []
-
-abbrev refusal : Choice → ℕ
-refusal chosen.Disabled = 0
-refusal (chosen.Refused n) = n
-refusal (chosen.Fetch w s) = 0
-refusal chosen.GiveBack = 0
-refusal (chosen.Unit w) = 0
-refusal (chosen.Hold w) = 0
-refusal chosen.Release = 0
-refusal chosen.Idle = 0
-
--- the answer's number is the choice's
-step-number : (c : Choice) (eop : Bool) (u : Controller) (z : Spaces) → paper (performOf c eop u z .stepped .answer) .number ≡ refusal c
-unfolding performOf fetchOf unitOf holdOf
-step-number chosen.Disabled eop u z = refl
-step-number (chosen.Refused n) eop u z = refl
-step-number (chosen.Fetch w s) true u z = refl
-step-number (chosen.Fetch w s) false u z = refl
-step-number chosen.GiveBack eop u z = refl
-step-number (chosen.Unit w) eop u z = refl
-step-number (chosen.Hold w) true u z = refl
-step-number (chosen.Hold w) false u z = refl
-step-number chosen.Release eop u z = refl
-step-number chosen.Idle eop u z = refl
-
-table : Intent → Controller → ℕ
-table i u = firstOf ((oddStart i u, 6) ∷ (notCarried i u, 7) ∷ (oddSide i u, 8) ∷ [])
-
-unit-number : (n : ℕ) (w : Which) → refusal (unitBy n w) ≡ n
-unit-number zero w = refl
-unit-number (suc n) w = rw (lib.Dec.eqb·suc-zero n)
-
-refusal-by : (a b : Bool) → refusalOf a b ≡ firstOf ((not a, 7) ∷ (b, 8) ∷ [])
-refusal-by true true = refl
-refusal-by true false = refl
-refusal-by false b = refl
-
-unit-table : (w : Which) (u : Controller) → refusal (unitBy (unitRefusal (at w u .mode) (at w u .current)) w) ≡ table (unit w) u
-unfolding table unitRefusal
-unit-table w u =
-    unit-number (unitRefusal (at w u .mode) (at w u .current)) w
-    ∙ refusal-by (carried (operationOf (at w u .mode))) (oddWord (operationOf (at w u .mode)) (isFlipped (at w u .mode)) (at w u .current))
-
-fetch-table : (s : Stage) (b : Bool) (w : Which) (u : Controller) → isOdd (at w u .chain) ≡ b → refusal (fetchBy s b w) ≡ table (fetch w s) u
-unfolding table
-fetch-table Reload true w u e = sym (ap (λ (x : Bool). firstOf ((x, 6) ∷ (false, 7) ∷ (false, 8) ∷ [])) e)
-fetch-table Reload false w u e = sym (ap (λ (x : Bool). firstOf ((x, 6) ∷ (false, 7) ∷ (false, 8) ∷ [])) e)
-fetch-table (Entries p) b w u e = refl
-
-keeper-table : (a : Bool) (r : RequestMode) (w : Which) (u : Controller) → refusal (keeperBy a r (unitRefusal (at w u .mode) (at w u .current)) w) ≡ table (keeps a w) u
-unfolding table
-keeper-table true r w u = unit-table w u
-keeper-table false Single w u = refl
-keeper-table false DemandHold w u = refl
-keeper-table false DemandRelease w u = refl
-keeper-table false DemandInterleave w u = refl
-
-begin-table : (p : Bool) (w : Which) (u : Controller)
-    → refusal (beginBy p (isOdd (at w u .chain)) (unitRefusal (at w u .mode) (at w u .current)) w) ≡ table (begun p w) u
-begin-table true w u = fetch-table Reload (isOdd (at w u .chain)) w u refl
-begin-table false w u = unit-table w u
-
-turn-table : (t : Turn) (u : Controller) → refusal (candidateBy t u) ≡ table (turned t u) u
-unfolding begins table
-turn-table Nobodys u = refl
-turn-table (Whose w) u = begin-table (at w u .pending) w u
-
-rules-table : (on : Bool) (c : Chain) (note : Bool) (bus : Bus) (u : Controller) → refusal (choiceBy on c note bus u) ≡ table (intentBy on c note bus u) u
-unfolding keeper candidate table
-rules-table false c note bus u = refl
-rules-table true (chain.Of w s) note bus u = fetch-table s (isOdd (at w u .chain)) w u refl
-rules-table true NoChain true bus u = refl
-rules-table true NoChain false (Kept w) u = keeper-table (requests (at w u .mode) (at w u .line)) (requestModeOf (at w u .mode)) w u
-rules-table true NoChain false Free u = turn-table (candidates u) u
-
--- only a refusal has a number, and it changes nothing
-quiet-choice : (c : Choice) (eop : Bool) (u : Controller) (z : Spaces) → refusal c ≢ 0 → performOf c eop u z ≡ outcome (says u (answer.Refused (refusal c))) z
-unfolding performOf
-quiet-choice chosen.Disabled eop u z h = absurd (h refl)
-quiet-choice (chosen.Refused n) eop u z h = refl
-quiet-choice (chosen.Fetch w s) eop u z h = absurd (h refl)
-quiet-choice chosen.GiveBack eop u z h = absurd (h refl)
-quiet-choice (chosen.Unit w) eop u z h = absurd (h refl)
-quiet-choice (chosen.Hold w) eop u z h = absurd (h refl)
-quiet-choice chosen.Release eop u z h = absurd (h refl)
-quiet-choice chosen.Idle eop u z h = absurd (h refl)
+  -- only a refusal has a number, which is the table's, and it changes nothing
+  looked : {c : Choice} → Chosen (boardOf z) u c → (number c ≡ firstOf (stepTable u z)) × (number c ≢ 0 → performOf c eop u z ≡ outcome (says u (answer.Refused (number c))) z)
+  unfolding performOf
+  looked (as-intended i r) = (unrefused i ∙ sym r ∙ sym (ap (λ (x : Choice). firstOf (refusals x (faultsOf (boardOf z) u))) (intended (factsOf u) i)), λ h. absurd (h (unrefused i)))
+  looked (refused i r) = (sym (ap (λ (x : Choice). firstOf (refusals x (faultsOf (boardOf z) u))) (intended (factsOf u) i) ∙ r), λ h. refl)
 
 pub record Step (eop : Bool) (u : Controller) (z : Spaces) : Type 0 where
-  pub refusals : Exactly (paper (stepOf eop u z .stepped .answer) .number) (stepTable u)
+  pub refusals : Exactly (paper (stepOf eop u z .stepped .answer) .number) (stepTable u z)
   -- a refused step changes nothing, EOP or not: the controller and both spaces are as they were, and every value is 0
   pub nothing : paper (stepOf eop u z .stepped .answer) .number ≢ 0
       → stepOf eop u z ≡ outcome (says u (answer.Refused (paper (stepOf eop u z .stepped .answer) .number))) z
 
 pub step : (eop : Bool) (u : Controller) (z : Spaces) → Step eop u z
-unfolding stepOf choice table
-step eop u z = record {
-  refusals = exactly (paper (performOf (choice u) eop u z .stepped .answer) .number) (stepTable u)
-      (step-number (choice u) eop u z ∙ rules-table (isEnabled (u .master)) (u .control .chain) (u .control .note) (u .control .bus) u);
-  nothing = λ h.
-      quiet-choice (choice u) eop u z (λ e. h (step-number (choice u) eop u z ∙ e))
-      ∙ ap (λ (n : ℕ). outcome (says u (answer.Refused n)) z) (sym (step-number (choice u) eop u z));
-}
+unfolding stepOf
+step eop u z = let l = looked eop u z (why (boardOf z) u) in record { refusals = exactly (number eop u z (choice (boardOf z) u)) (stepTable u z) (l .0); nothing = l .1 }

@@ -9,6 +9,7 @@ use lib.Dec.{eqb}
 use Rattle.space.specs.declared.Width.{Width}
 use Rattle.space.specs.declared.Place.{Place}
 use Rattle.space.specs.Space.{Spaces, get}
+use Rattle.board.specs.Board.{boardOf}
 use Rattle.laws.specs.Local.{Agree, Prog, gets, bytesAt}
 use Rattle.laws.specs.Machine.{iter, Every, every-map, every-init}
 use Rattle.laws.specs.Op.{Ends, ended, Seen, bump, after, done, Unended, seen-data, Steady, Area, Reads-at}
@@ -96,7 +97,7 @@ pub unit-step : (w : Which) (m : Machine) → owns w (next-choice m) ≡ true �
 unit-step w m e = step-by m ∙ ap (λ (c : Choice). by c m) (owns-unit w (next-choice m) e)
 
 -- the answer of a unit has the end reasons that the unit has
-pub unit-answer : (w : Which) (m : Machine) → owns w (next-choice m) ≡ true → answer m ≡ told.Unit w (reasonsOf (made w m) false)
+pub unit-answer : (w : Which) (m : Machine) → owns w (next-choice m) ≡ true → answer m ≡ told.Unit w (record { why = reasonsOf (made w m) false })
 unfolding stepOf performOf unitOf
 unit-answer w m e = ap (λ (c : Choice). performOf c false (m .controller) (m .spaces) .stepped .answer) (owns-unit w (next-choice m) e)
 
@@ -208,7 +209,7 @@ ends-of x = record { mc = x .compared .met; tc = x .tc }
 
 -- the answer of channel w's unit that ends so
 abbrev pub answered : Which → Ends → Answer
-answered w e = told.Unit w (record { tc = e .tc; mc = e .mc; eop = false })
+answered w e = told.Unit w (record { why = record { tc = e .tc; mc = e .mc; eop = false } })
 
 none-ended : (e : Ends) → ended e ≡ false → e ≡ record { mc = false; tc = false }
 none-ended e h = go (e .mc) (e .tc) h
@@ -306,7 +307,7 @@ module _ (w : Which) (d : Width) (a : Address) (n pattern mask control : ℕ) (f
   }
     where
       left-of : Left w m (by (next-choice m) m)
-      left-of = rest-of w (next-choice m) m e (unfetched w (m .controller) (h .pending) (h .spared)) (h .spared)
+      left-of = rest-of w (next-choice m) m e (unfetched w (boardOf (m .spaces)) (m .controller) (h .pending) (h .spared)) (h .spared)
 
       q : channel w (by (next-choice m) m) ≡ channel w m
       q = left-of .alone

@@ -11,6 +11,7 @@ use borrow.Author.Tests.{ne-eqb}
 use Rattle.space.specs.declared.Width.the-variants.{Byte, Word}
 use Rattle.space.specs.declared.Place.{Place}
 use Rattle.space.specs.Space.{Spaces, get, placeAt}
+use Rattle.board.specs.Board.{boardOf}
 use Rattle.space.specs.Laws.{SameSize, size-refl, Bytes, after}
 use Rattle.laws.specs.Local.{Agree, Write, gets, puts, size-puts, writing}
 use Rattle.laws.specs.Machine.{iter, Every, every-map}
@@ -150,7 +151,7 @@ module _ (w : Which) (flip : Bool) (bytes-at words-at : Address) (n : ℕ) (fits
   }
     where
       left-of : Left w m (by (next-choice m) m)
-      left-of = rest-of w (next-choice m) m e (unfetched w (m .controller) (h .pending) (h .spared)) (h .spared)
+      left-of = rest-of w (next-choice m) m e (unfetched w (boardOf (m .spaces)) (m .controller) (h .pending) (h .spared)) (h .spared)
 
       q : channel w (by (next-choice m) m) ≡ channel w m
       q = left-of .alone

@@ -1,9 +1,8 @@
 -- Demand 3: two channels in Demand Interleave take turns, and where they keep apart the result is that of one after the other.
 -- Assumes nothing.
 use mathlib.Core.Path.{_≡_, refl, sym, ap, _∙_, subst}
-use mathlib.Core.Bool.{Bool, true, false, not, cond, _&&_, _||_}
-use Prim.Native.Nat.{ℕ, suc, _≤_}
-use lib.Dec.{eqb}
+use mathlib.Core.Bool.{Bool, true, false, not, _&&_, _||_}
+use Prim.Native.Nat.{ℕ, zero, suc, _≤_}
 use Rattle.space.specs.Space.{Spaces}
 use Rattle.space.specs.Laws.{size-refl}
 use Rattle.laws.specs.Local.{Mover, mover}
@@ -19,17 +18,15 @@ use Rattle.reasons.specs.declared.Reasons.{Reasons}
 use Rattle.mode.specs.Mode.{requestModeOf}
 use Rattle.reasons.specs.Reasons.{some}
 use Rattle.unit.specs.declared.Moved.{Moved}
-use Rattle.unit.specs.Unit.{unitRefusal, worked}
+use Rattle.unit.specs.Unit.{worked}
 use Rattle.channel.specs.declared.Channel.{Channel}
 use Rattle.channel.specs.Candidate.{isCandidate}
 use Rattle.request.specs.Request.{requests}
 use Rattle.channel.specs.Ending.{movedBy, reasonsOf, unended, unendedBy, afterBy, afterUnit}
-use Rattle.control.specs.declared.Chain.{Chain}
 use Rattle.control.specs.declared.Chain.the-variants.{NoChain}
-use Rattle.control.specs.declared.Bus.{Bus}
 use Rattle.control.specs.declared.Bus.the-variants.{Free}
-use Rattle.rules.specs.declared.Served.{Served}
-use Rattle.rules.specs.declared.Served.the-variants.{Nobody, Last}
+use Rattle.control.specs.declared.Served.{Served}
+use Rattle.control.specs.declared.Served.the-variants.{Nobody, Last}
 use Rattle.controller.specs.declared.Controller.{Controller}
 use Rattle.rules.specs.declared.Choice.{Choice}
 use Rattle.rules.specs.declared.Choice.the-variants as chosen
@@ -39,11 +36,19 @@ use Rattle.control.specs.declared.Control.{Control}
 use Rattle.control.specs.declared.Back.the-variants.{Note, Bus as TheBus}
 use Rattle.controller.specs.Answers.{none}
 use Rattle.controller.specs.Controller.{at, with}
-use Rattle.rules.specs.declared.Turn.{Turn as Whoever}
+use Rattle.rules.specs.declared.Turn.the-variants.{Whose}
 use Rattle.rules.specs.Turns.{next-up, takes-turns}
-use Rattle.choosing.specs.Channels.{begins, interleaves}
-use Rattle.controller.specs.Choice.{candidateBy, candidate, choiceBy, choice}
-use Rattle.rules.specs.Rules.{isEnabled, isInterleaved, unitBy, beginBy, turnBy, isInterleave}
+use Rattle.choosing.specs.Channels.{interleaves}
+use Rattle.facts.specs.First.{firstOf}
+use Rattle.board.specs.declared.Board.{Board}
+use Rattle.board.specs.Board.{boardOf}
+use Rattle.rules.specs.Rules.{refusals, refusedOr}
+use Rattle.rules.specs.View.{chosen-by}
+use Rattle.rules.specs.View.Intends.{noted, begins-unit}
+use Rattle.rules.specs.View.Because.{as-intended}
+use Rattle.controller.specs.Choice.{turn, factsOf, faultsOf, choice}
+use Rattle.controller.specs.Laws.{chooses}
+use Rattle.rules.specs.Rules.{isEnabled, isInterleaved, turnBy, isInterleave}
 use Rattle.controller.specs.Step.{Outcome, workOf, unitOf, performOf, stepOf}
 use Rattle.control.specs.After.{unendedControl, controlBy}
 use Rattle.promises.specs.Machine.{Machine, left, step, answer, next-choice, channel, unit, unit-channel, unit-spaces}
@@ -74,9 +79,9 @@ Fine answer.Disabled = Unit {0}
 Fine answer.Idle = Unit {0}
 Fine (answer.GivenBack b) = Unit {0}
 Fine (answer.Holding w) = Unit {0}
-Fine (answer.Fetched w) = Unit {0}
+Fine (answer.Fetched w d) = Unit {0}
 Fine (answer.Dropped w) = Unit {0}
-Fine (answer.Unit w why) = why ≡ none
+Fine (answer.Unit w d) = d .why ≡ none
 Fine (answer.Ended w) = ⊥
 
 -- ---- how the machine is seen
@@ -117,39 +122,35 @@ interleaves-ready : (c : Channel) → Ready c → interleaves c ≡ true
 unfolding interleaves
 interleaves-ready c h = λ i. not (h .pending i) && isInterleave (h .mode i)
 
-refusal : Channel → ℕ
-refusal c = unitRefusal (c .mode) (c .current)
-
-begins-ready : (w : Which) (c : Channel) → Ready c → begins w c ≡ unitBy (refusal c) w
-unfolding begins refusal
-begins-ready w c h = λ i. beginBy (h .pending i) (Rattle.address.specs.Address.isOdd (c .chain)) (unitRefusal (c .mode) (c .current)) w
-
-abbrev expected : Bool → Served → Controller → Choice
-expected true s u = chosen.GiveBack
-expected false s u = unitBy (refusal (at (next-up s) u)) (next-up s)
+abbrev expected : Bool → Served → Board → Controller → Choice
+expected true s b u = chosen.GiveBack
+expected false s b u = let c = chosen.Unit (next-up s) in refusedOr (firstOf (refusals c (faultsOf b u))) c
 
 module _ (m : Machine) (h : Start m) where
-  turned : (s : Served) → candidateBy (turnBy true true true s) (m .controller) ≡ expected false s (m .controller)
+  abbrev u : Controller
+  u = m .controller
+
+  turns : turn u ≡ Whose (next-up (u .control .served))
+  unfolding turn
+  turns =
+      (λ i. turnBy (candidate-ready (u .one) (h .one) i) (candidate-ready (u .two) (h .two) i)
+      (interleaves-ready (u .one) (h .one) i && interleaves-ready (u .two) (h .two) i) (u .control .served))
+      ∙ takes-turns (u .control .served)
+
+  unpending : (w : Which) → at w u .pending ≡ false
   unfolding at
-  turned s = ap (λ (t : Whoever). candidateBy t (m .controller)) (takes-turns s) ∙ ready (next-up s)
-    where
-      ready : (w : Which) → begins w (at w (m .controller)) ≡ unitBy (refusal (at w (m .controller))) w
-      ready One = begins-ready One (m .controller .one) (h .one)
-      ready Two = begins-ready Two (m .controller .two) (h .two)
+  unpending One = h .one .pending
+  unpending Two = h .two .pending
 
-  candidates : candidate (m .controller) ≡ candidateBy (turnBy true true true (m .controller .control .served)) (m .controller)
-  unfolding candidate
-  candidates = λ i.
-      candidateBy (turnBy (candidate-ready (m .controller .one) (h .one) i) (candidate-ready (m .controller .two) (h .two) i)
-      (interleaves-ready (m .controller .one) (h .one) i && interleaves-ready (m .controller .two) (h .two) i) (m .controller .control .served)) (m .controller)
-
-  by-note : (n : Bool) → choiceBy true NoChain n Free (m .controller) ≡ expected n (m .controller .control .served) (m .controller)
-  by-note true = refl
-  by-note false = candidates ∙ turned (m .controller .control .served)
-
-  choice-of : next-choice m ≡ expected (m .controller .control .note) (m .controller .control .served) (m .controller)
+  by-note : (n : Bool) → u .control .note ≡ n → next-choice m ≡ expected n (u .control .served) (boardOf (m .spaces)) u
   unfolding choice
-  choice-of = (λ i. choiceBy (h .on i) (h .chain i) (m .controller .control .note) (h .bus i) (m .controller)) ∙ by-note (m .controller .control .note)
+  by-note true e = chooses (boardOf (m .spaces)) u (as-intended (noted (h .on) (h .chain) e) refl)
+  by-note false e =
+      let w = next-up (u .control .served) in
+      chosen-by (factsOf u) (faultsOf (boardOf (m .spaces)) u) (chosen.Unit w) _ (begins-unit w (record { calm = record { enabled = h .on; chain = h .chain; note = e }; bus = h .bus; turn = turns }) (unpending w)) refl
+
+  choice-of : next-choice m ≡ expected (m .controller .control .note) (m .controller .control .served) (boardOf (m .spaces)) (m .controller)
+  choice-of = by-note (u .control .note) refl
 
 picks-next : (s : Served) → Picks (turn-of (chosen.Unit (next-up s))) (latest s)
 picks-next Nobody = tt
@@ -244,9 +245,9 @@ Turned answer.Idle = ⊥
 Turned (answer.GivenBack Note) = Unit {0}
 Turned (answer.GivenBack TheBus) = ⊥
 Turned (answer.Holding w) = ⊥
-Turned (answer.Fetched w) = ⊥
+Turned (answer.Fetched w d) = ⊥
 Turned (answer.Dropped w) = ⊥
-Turned (answer.Unit w why) = why ≡ none
+Turned (answer.Unit w d) = d .why ≡ none
 Turned (answer.Ended w) = ⊥
 
 record Does (z : Spaces) (c : Choice) (m : Machine) : Type 0 where
@@ -255,24 +256,21 @@ record Does (z : Spaces) (c : Choice) (m : Machine) : Type 0 where
   kind : Turned (by c m .stepped .answer)
 
 module _ (z : Spaces) (m : Machine) (h : Start m) where
-  unit-or-refused : (s : Served) → m .controller .control .served ≡ s → (b : Bool) (k : ℕ)
-      → Fine (by (cond b (chosen.Unit (next-up s)) (chosen.Refused k)) m .stepped .answer) → Does z (cond b (chosen.Unit (next-up s)) (chosen.Refused k)) m
+  unit-or-refused : (s : Served) → m .controller .control .served ≡ s → (k : ℕ)
+      → Fine (by (refusedOr k (chosen.Unit (next-up s))) m .stepped .answer) → Does z (refusedOr k (chosen.Unit (next-up s))) m
   unfolding performOf unitOf
-  unit-or-refused s e true k f = record {
+  unit-or-refused s e zero f = record {
     kept = unit-kept z m h (next-up s) f;
     picks = subst (λ (x : Served). Picks (turn-of (chosen.Unit (next-up s))) (latest x)) (sym e) (picks-next s);
     kind = f;
   }
-  unit-or-refused s e false k f = absurd f
+  unit-or-refused s e (suc k) f = absurd f
 
-  as-expected : (n : Bool) → Fine (by (expected n (m .controller .control .served) (m .controller)) m .stepped .answer)
-      → Does z (expected n (m .controller .control .served) (m .controller)) m
+  as-expected : (n : Bool) → Fine (by (expected n (m .controller .control .served) (boardOf (m .spaces)) (m .controller)) m .stepped .answer)
+      → Does z (expected n (m .controller .control .served) (boardOf (m .spaces)) (m .controller)) m
   unfolding performOf
   as-expected true f = record { kept = given z m h; picks = tt; kind = tt }
-  as-expected false f =
-      let s = m .controller .control .served in
-      let k = refusal (at (next-up s) (m .controller)) in
-      unit-or-refused s refl (eqb k 0) k f
+  as-expected false f = let s = m .controller .control .served in unit-or-refused s refl (firstOf (refusals (chosen.Unit (next-up s)) (faultsOf (boardOf (m .spaces)) (m .controller)))) f
 
 -- a step of the stretch
 record Law (z : Spaces) (m : Machine) : Type 0 where
@@ -286,7 +284,7 @@ each z m h f = (
   d .kept .start,
 )
   where
-    e : next-choice m ≡ expected (m .controller .control .note) (m .controller .control .served) (m .controller)
+    e : next-choice m ≡ expected (m .controller .control .note) (m .controller .control .served) (boardOf (m .spaces)) (m .controller)
     e = choice-of m h
 
     d : Does z (next-choice m) m

@@ -27,11 +27,12 @@ use Rattle.request.specs.Request.{requests}
 use Rattle.channel.specs.Ending.{movedBy, unended, afterUnit}
 use Rattle.control.specs.declared.Chain.the-variants.{NoChain}
 use Rattle.control.specs.declared.Bus.the-variants.{Free}
-use Rattle.rules.specs.declared.Served.the-variants.{Nobody}
+use Rattle.control.specs.declared.Served.the-variants.{Nobody}
 use Rattle.controller.specs.declared.Controller.{Controller}
 use Rattle.controller.specs.Controller.{at, with}
-use Rattle.choosing.specs.Channels.{keeper, begins, interleaves}
-use Rattle.controller.specs.Choice.{candidate, choice}
+use Rattle.choosing.specs.Channels.{interleaves}
+use Rattle.controller.specs.Choice.{turn, choice}
+use Rattle.rules.specs.Rules.{intentOf, choiceOf}
 use Rattle.controller.specs.Step.{unitOf, performOf, stepOf}
 use Rattle.port.specs.declared.Which.the-variants.{One}
 use Rattle.udc.specs.Reset.{noChannel}
@@ -92,7 +93,7 @@ fits : 3 ≤ 65536
 fits = omega arith
 
 splits : Splits One (register 0) (register 8) 3 there 2
-unfolding working stepOf performOf choice candidate begins keeper isCandidate requests interleaves unitRefusal oddWord worked datumAt storedAt movedOf compared comparison steppedSet placeOf steppedOn directionOf operationOf requestModeOf look unitOf at with afterUnit movedBy some unended
+unfolding working stepOf performOf choice choiceOf intentOf turn isCandidate requests interleaves unitRefusal oddWord worked datumAt storedAt movedOf compared comparison steppedSet placeOf steppedOn directionOf operationOf requestModeOf look unitOf at with afterUnit movedBy some unended
 splits = record {
   fits = fits;
   at = record { op-is = refl; flipped = refl; a-is = refl; b-is = refl; count = refl; pending = refl; spared = refl };
@@ -102,7 +103,7 @@ splits = record {
 }
 
 merges : Merges One (register 8) (register 14) 3 back 2
-unfolding working stepOf performOf choice candidate begins keeper isCandidate requests interleaves unitRefusal oddWord worked datumAt storedAt movedOf compared comparison steppedSet placeOf steppedOn directionOf operationOf requestModeOf look unitOf at with afterUnit movedBy some unended
+unfolding working stepOf performOf choice choiceOf intentOf turn isCandidate requests interleaves unitRefusal oddWord worked datumAt storedAt movedOf compared comparison steppedSet placeOf steppedOn directionOf operationOf requestModeOf look unitOf at with afterUnit movedBy some unended
 merges = record {
   fits = fits;
   at = record { op-is = refl; flipped = refl; a-is = refl; b-is = refl; count = refl; pending = refl; spared = refl };
@@ -112,7 +113,7 @@ merges = record {
 }
 
 same-size : SameSize (there .spaces) (back .spaces)
-unfolding working stepOf performOf choice candidate begins keeper isCandidate requests interleaves unitRefusal oddWord worked datumAt storedAt movedOf compared comparison steppedSet placeOf steppedOn directionOf operationOf requestModeOf look unitOf at with afterUnit movedBy some unended
+unfolding working stepOf performOf choice choiceOf intentOf turn isCandidate requests interleaves unitRefusal oddWord worked datumAt storedAt movedOf compared comparison steppedSet placeOf steppedOn directionOf operationOf requestModeOf look unitOf at with afterUnit movedBy some unended
 same-size = record { memory = refl; io = refl }
 
 pub funnel-witness : (k : ℕ) → k < 3
@@ -124,5 +125,5 @@ funnel-witness = demand2c One One (register 0) (register 8) (register 14) 3 ther
 -- and the words there are these
 pub funnelled : step (iter step 2 back) .spaces .memory
     ≡ 18 ∷ 52 ∷ 86 ∷ 120 ∷ 154 ∷ 188 ∷ 0 ∷ 0 ∷ 18 ∷ 52 ∷ 86 ∷ 120 ∷ 154 ∷ 188 ∷ 18 ∷ 52 ∷ 86 ∷ 120 ∷ 154 ∷ 188 ∷ []
-unfolding working stepOf performOf choice candidate begins keeper isCandidate requests interleaves unitRefusal oddWord worked datumAt storedAt movedOf compared comparison steppedSet placeOf steppedOn directionOf operationOf requestModeOf look unitOf at with afterUnit movedBy some unended
+unfolding working stepOf performOf choice choiceOf intentOf turn isCandidate requests interleaves unitRefusal oddWord worked datumAt storedAt movedOf compared comparison steppedSet placeOf steppedOn directionOf operationOf requestModeOf look unitOf at with afterUnit movedBy some unended
 funnelled = refl

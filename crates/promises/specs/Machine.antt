@@ -17,6 +17,7 @@ use Rattle.controller.specs.declared.Controller.{Controller}
 use Rattle.controller.specs.declared.Answer.{Answer}
 use Rattle.rules.specs.declared.Choice.{Choice}
 use Rattle.controller.specs.Controller.{at}
+use Rattle.board.specs.Board.{boardOf}
 use Rattle.controller.specs.Choice.{choice}
 use Rattle.controller.specs.Step.{Outcome, workOf, stepOf}
 
@@ -38,7 +39,7 @@ abbrev pub answer : Machine → Answer
 answer m = outcomeOf m .stepped .answer
 
 abbrev pub next-choice : Machine → Choice
-next-choice m = choice (m .controller)
+next-choice m = choice (boardOf (m .spaces)) (m .controller)
 
 abbrev pub channel : Which → Machine → Channel
 channel w m = at w (m .controller)

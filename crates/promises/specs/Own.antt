@@ -1,9 +1,7 @@
 -- What a step does to a channel and to the spaces, by whether it is a unit of that channel. For either channel. Assumes nothing.
 use mathlib.Core.Path.{_≡_, refl, sym, ap, _∙_}
-use mathlib.Core.Bool.{Bool, true, false, not, _&&_, true≢false}
-use mathlib.Core.List.{List}
+use mathlib.Core.Bool.{Bool, true, false, not, true≢false}
 use Prim.Native.Nat.{ℕ}
-use lib.Dec.{eqb}
 use Rattle.space.specs.declared.Place.{Place}
 use Rattle.space.specs.declared.Width.the-variants.{Word}
 use Rattle.space.specs.Space.{Spaces, get, valueIn}
@@ -15,33 +13,29 @@ use Rattle.mode.specs.declared.RequestMode.{RequestMode}
 use Rattle.mode.specs.declared.RequestMode.the-variants.{Single, DemandHold, DemandRelease, DemandInterleave}
 use Rattle.mode.specs.Mode.{requestModeOf}
 use Rattle.reasons.specs.Reasons.{some}
-use Rattle.address.specs.Address.{isOdd, number}
-use Rattle.unit.specs.Unit.{unitRefusal, worked}
+use Rattle.address.specs.Address.{number}
+use Rattle.unit.specs.Unit.{worked}
 use Rattle.channel.specs.declared.Channel.{Channel}
-use Rattle.channel.specs.Candidate.{isCandidate}
 use Rattle.request.specs.Request.{requests}
 use Rattle.channel.specs.Ending.{reasonsOf, afterUnit}
 use Rattle.chain.specs.Chaining.{fetchedOf}
 use Rattle.reload.specs.declared.Stage.{Stage}
-use Rattle.reload.specs.declared.Stage.the-variants.{Reload, Entries}
 use Rattle.reload.specs.declared.Next.{Next}
 use Rattle.reload.specs.declared.Next.the-variants.{More, Complete}
 use Rattle.control.specs.declared.Chain.{Chain}
 use Rattle.control.specs.declared.Chain.the-variants.{NoChain, Of}
-use Rattle.control.specs.declared.Bus.{Bus}
-use Rattle.control.specs.declared.Bus.the-variants.{Free, Kept}
-use Rattle.rules.specs.declared.Served.{Served}
-use Rattle.rules.specs.declared.Turn.{Turn}
-use Rattle.rules.specs.declared.Turn.the-variants.{Nobodys, Whose}
 use Rattle.control.specs.declared.Control.{Control}
 use Rattle.controller.specs.declared.Controller.{Controller}
 use Rattle.rules.specs.declared.Choice.{Choice}
 use Rattle.rules.specs.declared.Choice.the-variants as chosen
 use Rattle.controller.specs.Controller.{at, with}
-use Rattle.choosing.specs.Channels.{keeper, begins, interleaves}
-use Rattle.controller.specs.Choice.{candidateBy, candidate, choiceBy, choice}
-use Rattle.rules.specs.Rules.{isEnabled, isInterleaved, fetchBy, unitBy, keeperBy, beginBy, turnBy}
-use Rattle.controller.specs.Fetching.{fetchOf}
+use Rattle.board.specs.declared.Board.{Board}
+use Rattle.rules.specs.View.Intends.{disabled, goes-on, noted, keeps, holds, releases, begins-chain, begins-unit, idle}
+use Rattle.rules.specs.View.Because.{as-intended, refused}
+use Rattle.controller.specs.Choice.{choice}
+use Rattle.controller.specs.Laws.{Chosen, chosen as why}
+use Rattle.rules.specs.Rules.{isInterleaved}
+use Rattle.controller.specs.Fetching.{dropOf, fetchOf}
 use Rattle.control.specs.After.{controlFetched}
 use Rattle.controller.specs.Step.{workOf, unitOf, holdOf, performOf}
 use Rattle.control.specs.After.{controlBy}
@@ -85,66 +79,32 @@ spares w (Of v s) = not (same w v)
 
 -- ---- a channel without a chain is not fetched for
 
-module _ (w : Which) where
-  by-unit : (n : ℕ) (v : Which) → fetches w (unitBy n v) ≡ false
-  by-unit n v = go (eqb n 0)
-    where
-      go : (b : Bool) → fetches w (mathlib.Core.Bool.cond b (chosen.Unit v) (chosen.Refused n)) ≡ false
-      go true = refl
-      go false = refl
+differs : (b : Bool) → not b ≡ true → b ≡ false
+differs true e = sym e
+differs false e = refl
 
-  by-fetch : (s : Stage) (odd : Bool) (v : Which) → same w v ≡ false → fetches w (fetchBy s odd v) ≡ false
-  by-fetch Reload true v e = refl
-  by-fetch Reload false v e = e
-  by-fetch (Entries p) odd v e = e
+-- a chain that is begun is another channel's
+another : (w v : Which) (u : Controller) → at w u .pending ≡ false → at v u .pending ≡ true → same w v ≡ false
+another One One u e f = absurd (true≢false (sym f ∙ e))
+another One Two u e f = refl
+another Two One u e f = refl
+another Two Two u e f = absurd (true≢false (sym f ∙ e))
 
-  by-keeper : (a : Bool) (r : RequestMode) (n : ℕ) (v : Which) → fetches w (keeperBy a r n v) ≡ false
-  by-keeper true r n v = by-unit n v
-  by-keeper false Single n v = refl
-  by-keeper false DemandHold n v = refl
-  by-keeper false DemandRelease n v = refl
-  by-keeper false DemandInterleave n v = refl
+module _ (w : Which) (b : Board) (u : Controller) (calm : at w u .pending ≡ false) (f : spares w (u .control .chain) ≡ true) where
+  by-reason : {c : Choice} → Chosen b u c → fetches w c ≡ false
+  by-reason (as-intended (disabled e) r) = refl
+  by-reason (as-intended (goes-on v s e c) r) = differs (same w v) (sym (ap (spares w) c) ∙ f)
+  by-reason (as-intended (noted e c n) r) = refl
+  by-reason (as-intended (keeps v k) r) = refl
+  by-reason (as-intended (holds v k h) r) = refl
+  by-reason (as-intended (releases v k h) r) = refl
+  by-reason (as-intended (begins-chain v t p) r) = another w v u calm p
+  by-reason (as-intended (begins-unit v t p) r) = refl
+  by-reason (as-intended (idle t) r) = refl
+  by-reason (refused i r) = refl
 
-  by-begin : (p odd : Bool) (n : ℕ) (v : Which) → (same w v ≡ true → p ≡ false) → fetches w (beginBy p odd n v) ≡ false
-  by-begin true odd n v e = by-fetch Reload odd v (go (same w v) e)
-    where
-      go : (b : Bool) → (b ≡ true → true ≡ false) → b ≡ false
-      go true f = f refl
-      go false f = refl
-  by-begin false odd n v e = by-unit n v
-
-  module _ (u : Controller) (idle : at w u .pending ≡ false) where
-    own : (v : Which) → same w v ≡ true → at v u .pending ≡ false
-    own v e = go w v e idle
-      where
-        go : (w v : Which) → same w v ≡ true → at w u .pending ≡ false → at v u .pending ≡ false
-        go One One e h = h
-        go One Two e h = absurd (true≢false (sym e))
-        go Two One e h = absurd (true≢false (sym e))
-        go Two Two e h = h
-
-    by-turn : (t : Turn) → fetches w (candidateBy t u) ≡ false
-    unfolding begins
-    by-turn Nobodys = refl
-    by-turn (Whose v) = by-begin (at v u .pending) (isOdd (at v u .chain)) (unitRefusal (at v u .mode) (at v u .current)) v (own v)
-
-    by-rules : (on : Bool) (chain : Chain) (note : Bool) (bus : Bus) → spares w chain ≡ true → fetches w (choiceBy on chain note bus u) ≡ false
-    unfolding keeper candidate
-    by-rules false chain note bus f = refl
-    by-rules true (Of v s) note bus f = by-fetch s (isOdd (at v u .chain)) v (go (same w v) f)
-      where
-        go : (b : Bool) → not b ≡ true → b ≡ false
-        go true e = sym e
-        go false e = refl
-    by-rules true NoChain true bus f = refl
-    by-rules true NoChain false (Kept v) f =
-        by-keeper (requests (at v u .mode) (at v u .line)) (requestModeOf (at v u .mode)) (unitRefusal (at v u .mode) (at v u .current)) v
-    by-rules true NoChain false Free f =
-        by-turn (turnBy (isCandidate (u .one)) (isCandidate (u .two)) (interleaves (u .one) && interleaves (u .two)) (u .control .served))
-
-    pub unfetched : spares w (u .control .chain) ≡ true → fetches w (choice u) ≡ false
-    unfolding choice
-    unfetched f = by-rules (isEnabled (u .master)) (u .control .chain) (u .control .note) (u .control .bus) f
+  pub unfetched : fetches w (choice b u) ≡ false
+  unfetched = by-reason (why b u)
 
 -- ---- a step that is neither leaves the channel alone
 
@@ -200,7 +160,7 @@ spared-moved w v m e f =
     (afterUnit v false x (at v (m .controller)) .chains) (m .controller .control) f
 
 pub rest-of : (w : Which) (c : Choice) (m : Machine) → owns w c ≡ false → fetches w c ≡ false → spares w (chain-of m) ≡ true → Left w m (by c m)
-unfolding performOf fetchOf unitOf holdOf at with fetched-control unit-control
+unfolding performOf dropOf fetchOf unitOf holdOf at with fetched-control unit-control
 rest-of w chosen.Disabled m e f s = record { alone = refl; spared = s }
 rest-of w (chosen.Refused n) m e f s = record { alone = refl; spared = s }
 rest-of One (chosen.Fetch One g) m e f s = absurd (true≢false f)

@@ -15,10 +15,18 @@ use Rattle.controller.specs.declared.Answer.{Answer}
 use Rattle.control.specs.declared.Back.the-variants.{Note, Bus}
 use Rattle.controller.specs.declared.Answer.the-variants.{Refused, Disabled, Idle, GivenBack, Holding, Fetched, Dropped, Unit, Ended}
 use Rattle.controller.specs.Answers.{paper}
-use Rattle.controller.specs.Step.{Outcome, outcome, says}
-use Rattle.running.specs.Run.{RunOutcome, stops, next, advanced, runFrom, runOf}
+use Rattle.facts.specs.First.{firstOf}
+use Rattle.reload.specs.declared.Stage.the-variants.{Reload, Entries}
+use Rattle.board.specs.declared.Board.{Board}
+use Rattle.board.specs.Board.{boardOf}
+use Rattle.rules.specs.declared.Choice.{Choice}
+use Rattle.rules.specs.declared.Choice.the-variants as choice
+use Rattle.rules.specs.Rules.{intentOf, refusals}
+use Rattle.controller.specs.Choice.{factsOf, faultsOf}
+use Rattle.controller.specs.Step.{Outcome, outcome, RunOutcome, says}
+use Rattle.running.specs.Run.{stops, next, advanced, runFrom, runOf}
 use Rattle.promises.specs.Machine.{Machine, left, outcomeOf, step, answer}
-use Rattle.promises.specs.Demand1.{firstOf, intent, oddStart, notCarried, oddSide}
+use Rattle.promises.specs.Demand1.{stepTable}
 use Rattle.promises.specs.Demand1 as demand1
 
 abbrev pub machine : Controller → Spaces → Machine
@@ -52,9 +60,9 @@ going-on Idle e = refl
 going-on (GivenBack Note) e = refl
 going-on (GivenBack Bus) e = refl
 going-on (Holding w) e = refl
-going-on (Fetched w) e = refl
+going-on (Fetched w d) e = refl
 going-on (Dropped w) e = refl
-going-on (Unit w why) e = refl
+going-on (Unit w d) e = refl
 going-on (Ended w) e = refl
 
 ran-from : (n k : ℕ) (o : Outcome) → paper (o .stepped .answer) .number ≡ 0 → Whole n k (left o) (runFrom n k o) ⊎ Stopped n k (left o) (runFrom n k o)
@@ -108,20 +116,36 @@ too-long : (budget : ℕ) (u : Controller) (z : Spaces) → ltb 65536 budget ≡
 unfolding runOf
 too-long budget u z e = ap (λ (b : Bool). cond b (record { last = outcome (says u (Refused 11)) z; steps = 0 }) (runFrom budget 0 (outcome (says u Idle) z))) e
 
--- a step's number is never 11
-not-11 : (a b c : Bool) → firstOf ((a, 6) ∷ (b, 7) ∷ (c, 8) ∷ []) ≢ 11
-not-11 true b c e = omega arith
-not-11 false true c e = omega arith
-not-11 false false true e = omega arith
-not-11 false false false e = omega arith
+-- a table that has no row of 11 does not give it
+abbrev Without11 : List (Bool × ℕ) → Type 0
+Without11 [] = true ≡ true
+Without11 (e ∷ es) = (e .1 ≢ 11) × Without11 es
+
+not-11 : (t : List (Bool × ℕ)) → Without11 t → firstOf t ≢ 11
+not-11 [] h e = omega arith
+not-11 (x ∷ es) h e = go (x .0) e (not-11 es (h .1))
+  where
+    go : (b : Bool) → cond b (x .1) (firstOf es) ≡ 11 → firstOf es ≢ 11 → ⊥
+    go true q f = h .0 q
+    go false q f = f q
+
+step-without : (c : Choice) (b : Board) (u : Controller) → Without11 (refusals c (faultsOf b u))
+step-without choice.Disabled b u = refl
+step-without (choice.Refused n) b u = refl
+step-without (choice.Fetch w Reload) b u = ((λ x. omega arith), refl)
+step-without (choice.Fetch w (Entries p)) b u = refl
+step-without choice.GiveBack b u = refl
+step-without (choice.Unit w) b u = ((λ x. omega arith), ((λ x. omega arith), refl))
+step-without (choice.Hold w) b u = refl
+step-without choice.Release b u = refl
+step-without choice.Idle b u = refl
 
 module _ (budget : ℕ) (u : Controller) (z : Spaces) (e : ltb 65536 budget ≡ false) where
   number-not-11 : Whole budget 0 (machine u z) (runOf budget u z) ⊎ Stopped budget 0 (machine u z) (runOf budget u z) → run-number budget u z ≢ 11
   number-not-11 (inl h) q = let x = h .unrefused in omega arith
   number-not-11 (inr h) q =
       let m = iter step (h .at) (machine u z) in
-      let i = intent (m .controller) in
-      not-11 (oddStart i (m .controller)) (notCarried i (m .controller)) (oddSide i (m .controller)) (sym (demand1.step false (m .controller) (m .spaces) .refusals .is) ∙ sym (ap (λ (o : Outcome). paper (o .stepped .answer) .number) (h .last)) ∙ q)
+      not-11 (stepTable (m .controller) (m .spaces)) (step-without (intentOf (factsOf (m .controller))) (boardOf (m .spaces)) (m .controller)) (sym (demand1.step false (m .controller) (m .spaces) .refusals .is) ∙ sym (ap (λ (o : Outcome). paper (o .stepped .answer) .number) (h .last)) ∙ q)
 
   steps-kept : Whole budget 0 (machine u z) (runOf budget u z) ⊎ Stopped budget 0 (machine u z) (runOf budget u z) → run-number budget u z ≢ 0
       → left (runOf budget u z .last) ≡ iter step (runOf budget u z .steps) (machine u z)

@@ -3,19 +3,18 @@ use mathlib.Core.Path.{_≡_, refl, sym, ap, _∙_, subst}
 use mathlib.Core.Bool.{Bool, true, false, not, cond, _&&_, _||_, true≢false}
 use mathlib.Core.List.{List}
 use Prim.Native.Nat.{ℕ, zero, suc}
-use lib.Dec.{eqb, ltb}
+use lib.Dec.{ltb}
 use Rattle.space.specs.declared.Width.the-variants.{Word}
 use Rattle.space.specs.Space.{Spaces, valueIn}
 use Rattle.port.specs.declared.Which.{Which}
-use Rattle.port.specs.declared.Which.the-variants.{One, Two}
-use Rattle.address.specs.Address.{number, isOdd}
+use Rattle.address.specs.Address.{number}
 use Rattle.reasons.specs.declared.Reasons.{Reasons}
 use Rattle.mode.specs.declared.RequestMode.{RequestMode}
 use Rattle.mode.specs.declared.RequestMode.the-variants.{Single, DemandHold, DemandRelease, DemandInterleave}
 use Rattle.mode.specs.Mode.{requestModeOf}
 use Rattle.reasons.specs.Reasons.{some}
 use Rattle.unit.specs.declared.Moved.{Moved}
-use Rattle.unit.specs.Unit.{worked, unitRefusal}
+use Rattle.unit.specs.Unit.{worked}
 use Rattle.channel.specs.declared.Channel.{Channel}
 use Rattle.channel.specs.declared.Ended.{Ended}
 use Rattle.channel.specs.Set.{_⟨pending≔_⟩}
@@ -23,7 +22,7 @@ use Rattle.channel.specs.Candidate.{isCandidate}
 use Rattle.request.specs.Request.{requests}
 use Rattle.channel.specs.Ending.{endOf, movedBy, unendedBy, unended, reasonsOf, afterBy, afterUnit}
 use Rattle.reload.specs.declared.Stage.{Stage}
-use Rattle.reload.specs.declared.Stage.the-variants.{Reload, Entries}
+use Rattle.reload.specs.declared.Stage.the-variants.{Entries}
 use Rattle.reload.specs.declared.Next.{Next}
 use Rattle.reload.specs.declared.Next.the-variants.{More, Complete}
 use Rattle.chain.specs.Chaining.{fetchedOf, droppedOf}
@@ -31,10 +30,9 @@ use Rattle.control.specs.declared.Chain.{Chain}
 use Rattle.control.specs.declared.Chain.the-variants.{NoChain, Of}
 use Rattle.control.specs.declared.Bus.{Bus}
 use Rattle.control.specs.declared.Bus.the-variants.{Free, Kept}
-use Rattle.rules.specs.declared.Served.{Served}
-use Rattle.rules.specs.declared.Served.the-variants as served
-use Rattle.rules.specs.declared.Turn.{Turn}
-use Rattle.rules.specs.declared.Turn.the-variants.{Nobodys, Whose}
+use Rattle.control.specs.declared.Served.{Served}
+use Rattle.control.specs.declared.Served.the-variants as served
+use Rattle.rules.specs.declared.Turn.the-variants.{Whose}
 use Rattle.control.specs.declared.Control.{Control}
 use Rattle.controller.specs.declared.Controller.{Controller}
 use Rattle.rules.specs.declared.Choice.{Choice}
@@ -45,13 +43,18 @@ use Rattle.controller.specs.Step.{workOf, Outcome, outcome, says, unitOf, eopAl
 use Rattle.control.specs.After.{chainAfter, unendedControl, controlBy}
 use Rattle.controller.specs.Set.{_⟨control≔_⟩}
 use Rattle.control.specs.Set.{_⟨chain≔_⟩, _⟨bus≔_⟩, _⟨note≔_⟩}
-use Rattle.choosing.specs.Channels.{keeper, begins, interleaves}
-use Rattle.controller.specs.Choice.{candidateBy, candidate, choiceBy, choice}
-use Rattle.rules.specs.Rules.{isEnabled, isInterleaved, fetchBy, unitBy, keeperBy, beginBy, turnBy}
-use Rattle.controller.specs.Fetching.{fetchOf}
+use Rattle.board.specs.declared.Board.{Board}
+use Rattle.board.specs.Board.{boardOf}
+use Rattle.rules.specs.View.{Keeps, Turns}
+use Rattle.rules.specs.View.Intends.{disabled, goes-on, noted, keeps, holds, releases, begins-chain, begins-unit, idle}
+use Rattle.rules.specs.View.Because.{as-intended, refused}
+use Rattle.controller.specs.Choice.{factsOf, choice}
+use Rattle.controller.specs.Laws.{Chosen, chosen as why, is-candidate}
+use Rattle.rules.specs.Rules.{isEnabled, isInterleaved}
+use Rattle.controller.specs.Fetching.{dropOf, fetchOf}
 use Rattle.control.specs.After.{controlFetched}
 use Rattle.running.specs.Run.{stops, next, advanced, runFrom, runOf}
-use Rattle.promises.specs.WellFormed.{Tidy, TidyStage, ClearFlags, Settled, Clear, Software, TidyHalf, Owner, Keeper, Owned, WellFormed}
+use Rattle.promises.specs.WellFormed.{Tidy, TidyStage, ClearFlags, Clear, Software, TidyHalf, Owner, Keeper, Owned, WellFormed}
 use Rattle.promises.specs.WellChannel.{no, clear-settled}
 use Rattle.promises.specs.WellEnding.{EndedWell, ended-well, moved-tidy, moved-clear, unended-tidy, unended-clear, TidyNext, Finished, fetched-well, dropped-sound}
 use Rattle.promises.specs.WellCalls.{sound-at, at-with, placed, controlled, free-owned, loose-owned, chain-owned, kept-owned}
@@ -69,15 +72,15 @@ record Working (chain : Chain) (note on : Bool) (c : Channel) : Type 0 where
   no-chain : chain ≡ NoChain
   owner : Owner note on c
 
-abbrev Meant : Choice → Chain → Bus → Bool → Bool → (Which → Channel) → Type 0
-Meant chosen.Disabled chain bus note on c = Unit {0}
-Meant (chosen.Refused n) chain bus note on c = Unit {0}
-Meant (chosen.Fetch w s) chain bus note on c = Fetching s bus note on (c w)
-Meant chosen.GiveBack chain bus note on c = (chain ≡ NoChain) × (bus ≡ Free)
-Meant (chosen.Unit w) chain bus note on c = Working chain note on (c w)
-Meant (chosen.Hold w) chain bus note on c = Working chain note on (c w)
-Meant chosen.Release chain bus note on c = chain ≡ NoChain
-Meant chosen.Idle chain bus note on c = Unit {0}
+abbrev Meant : Choice → Controller → Type 0
+Meant chosen.Disabled u = Unit {0}
+Meant (chosen.Refused n) u = Unit {0}
+Meant (chosen.Fetch w s) u = Fetching s (u .control .bus) (u .control .note) (isEnabled (u .master)) (at w u)
+Meant chosen.GiveBack u = (u .control .chain ≡ NoChain) × (u .control .bus ≡ Free)
+Meant (chosen.Unit w) u = Working (u .control .chain) (u .control .note) (isEnabled (u .master)) (at w u)
+Meant (chosen.Hold w) u = Working (u .control .chain) (u .control .note) (isEnabled (u .master)) (at w u)
+Meant chosen.Release u = u .control .chain ≡ NoChain
+Meant chosen.Idle u = Unit {0}
 
 unpending : {sip ca nac pending : Bool} → ClearFlags sip ca nac pending → ClearFlags sip ca nac false
 unpending h = record { no-sip = h .no-sip; no-ca = h .no-ca; no-nac = h .no-nac; no-pending = refl }
@@ -91,89 +94,50 @@ able false true false true a e q = no refl e
 able false true true s a e q = no refl e
 able false false n s a e q = no refl e
 
-module _ (chain : Chain) (bus : Bus) (note on : Bool) (c : Which → Channel) where
-  fetch-meant : (s : Stage) (odd : Bool) (w : Which) → Fetching s bus note on (c w) → Meant (fetchBy s odd w) chain bus note on c
-  fetch-meant Reload true w h = tt
-  fetch-meant Reload false w h = h
-  fetch-meant (Entries p) odd w h = h
+module _ (u : Controller) (h : WellFormed u) where
+  abbrev Owns : Chain → Bus → Type 0
+  Owns chain bus = Owned chain bus (u .control .note) (isEnabled (u .master)) (λ v. at v u)
 
-  unit-meant : (n : ℕ) (w : Which) → Working chain note on (c w) → Meant (unitBy n w) chain bus note on c
-  unit-meant n w h = go (eqb n 0)
-    where
-      go : (b : Bool) → Meant (cond b (chosen.Unit w) (chosen.Refused n)) chain bus note on c
-      go true = h
-      go false = tt
+  owns : {chain : Chain} → u .control .chain ≡ chain → Owns chain (u .control .bus)
+  owns c = subst (λ (x : Chain). Owns x (u .control .bus)) c (h .owned)
 
-  keeper-meant : (a : Bool) (r : RequestMode) (n : ℕ) (w : Which) → Working chain note on (c w) → Meant (keeperBy a r n w) chain bus note on c
-  keeper-meant true r n w h = unit-meant n w h
-  keeper-meant false Single n w h = h .no-chain
-  keeper-meant false DemandHold n w h = h
-  keeper-meant false DemandRelease n w h = h .no-chain
-  keeper-meant false DemandInterleave n w h = h .no-chain
+  under-way : (w : Which) (s : Stage) (bus : Bus) → Owns (Of w s) bus → TidyStage s → Fetching s bus (u .control .note) (isEnabled (u .master)) (at w u)
+  under-way w s Free o t = record { free = refl; owner = record { no-note = o .no-note; enabled = o .enabled; clear = unpending (o .clear) }; stage = t }
+  under-way w s (Kept v) o t = absurd o
 
--- only a candidate begins
-abbrev Named : Turn → Controller → Type 0
-Named Nobodys u = Unit {0}
-Named (Whose w) u = isCandidate (at w u) ≡ true
+  noted-free : (bus : Bus) → Owns NoChain bus → u .control .note ≡ true → bus ≡ Free
+  noted-free Free o n = refl
+  noted-free (Kept w) o n = absurd (true≢false (sym n ∙ o .owner .no-note))
 
-turn-named : (a b both : Bool) (s : Served) (u : Controller) → isCandidate (u .one) ≡ a → isCandidate (u .two) ≡ b → Named (turnBy a b both s) u
-unfolding at
-turn-named false false both s u p q = tt
-turn-named false true both s u p q = q
-turn-named true false both s u p q = p
-turn-named true true false s u p q = p
-turn-named true true true served.Nobody u p q = p
-turn-named true true true (served.Last One) u p q = q
-turn-named true true true (served.Last Two) u p q = p
+  working : (a : Bool) (w : Which) → Keeps a w (factsOf u) → Working (u .control .chain) (u .control .note) (isEnabled (u .master)) (at w u)
+  working a w k = record { no-chain = k .calm .chain; owner = subst (Owns NoChain) (k .bus) (owns (k .calm .chain)) .owner }
 
-module _ (u : Controller) (h : (w : Which) → Settled (at w u)) where
-  begin-meant : (p : Bool) (w : Which) → at w u .pending ≡ p → isCandidate (at w u) ≡ true
-      → Meant (beginBy p (isOdd (at w u .chain)) (unitRefusal (at w u .mode) (at w u .current)) w) NoChain Free false true (λ v. at v u)
+  in-turn : (w : Which) (c : Channel) → Turns (Whose w) (factsOf u) → Clear c → Owner (u .control .note) (isEnabled (u .master)) c
+  in-turn w c t e = record { no-note = t .calm .note; enabled = t .calm .enabled; clear = e }
+
+  meant : (b : Board) {c : Choice} → Chosen b u c → Meant c u
   unfolding isCandidate
-  begin-meant true w e q =
-      fetch-meant NoChain Free false true (λ v. at v u) Reload (isOdd (at w u .chain)) w
-      (record {
-        free = refl;
-        owner = record { no-note = refl; enabled = refl; clear = record { no-sip = h w .pending-sip e; no-ca = h w .pending-ca e; no-nac = h w .pending-nac e; no-pending = refl } };
+  meant b (as-intended (disabled e) r) = tt
+  meant b (as-intended (goes-on w s e c) r) = under-way w s (u .control .bus) (owns c) (subst TidyHalf c (h .half))
+  meant b (as-intended (noted e c n) r) = (c, noted-free (u .control .bus) (owns c) n)
+  meant b (as-intended (keeps w k) r) = working true w k
+  meant b (as-intended (holds w k m) r) = working false w k
+  meant b (as-intended (releases w k m) r) = k .calm .chain
+  meant b (as-intended (begins-chain w t p) r) =
+      let s = sound-at w u h .1 in
+      record {
+        free = t .bus;
+        owner = in-turn w (at w u ⟨pending≔ false ⟩) t (record { no-sip = s .pending-sip p; no-ca = s .pending-ca p; no-nac = s .pending-nac p; no-pending = refl });
         stage = tt;
-      })
-  begin-meant false w e q =
-      unit-meant NoChain Free false true (λ v. at v u) (unitRefusal (at w u .mode) (at w u .current)) w
-      (record {
-        no-chain = refl;
-        owner = record {
-          no-note = refl;
-          enabled = refl;
-          clear = able (at w u .pending) (requests (at w u .mode) (at w u .line)) (at w u .status .nac) (at w u .interrupt .sip) (at w u .status .ca) q e;
-        };
-      })
-
-  turn-meant : (t : Turn) → Named t u → Meant (candidateBy t u) NoChain Free false true (λ v. at v u)
-  unfolding begins
-  turn-meant Nobodys q = tt
-  turn-meant (Whose w) q = begin-meant (at w u .pending) w refl q
-
-  rules-meant : (on : Bool) (chain : Chain) (note : Bool) (bus : Bus) → TidyHalf chain → Owned chain bus note on (λ v. at v u)
-      → Meant (choiceBy on chain note bus u) chain bus note on (λ v. at v u)
-  unfolding keeper candidate
-  rules-meant false chain note bus t o = tt
-  rules-meant true (Of w s) note Free t o =
-      fetch-meant (Of w s) Free note true (λ v. at v u) s (isOdd (at w u .chain)) w
-      (record { free = refl; owner = record { no-note = o .no-note; enabled = refl; clear = unpending (o .clear) }; stage = t })
-  rules-meant true (Of w s) note (Kept v) t o = absurd o
-  rules-meant true NoChain true Free t o = (refl, refl)
-  rules-meant true NoChain true (Kept w) t o = absurd (true≢false (o .owner .no-note))
-  rules-meant true NoChain false (Kept w) t o =
-      keeper-meant NoChain (Kept w) false true (λ v. at v u) (requests (at w u .mode) (at w u .line)) (requestModeOf (at w u .mode))
-      (unitRefusal (at w u .mode) (at w u .current)) w (record { no-chain = refl; owner = o .owner })
-  rules-meant true NoChain false Free t o =
-      let both = interleaves (u .one) && interleaves (u .two) in
-      turn-meant (turnBy (isCandidate (u .one)) (isCandidate (u .two)) both (u .control .served))
-      (turn-named (isCandidate (u .one)) (isCandidate (u .two)) both (u .control .served) u refl refl)
-
-choice-meant : (u : Controller) → WellFormed u → Meant (choice u) (u .control .chain) (u .control .bus) (u .control .note) (isEnabled (u .master)) (λ v. at v u)
-unfolding choice
-choice-meant u h = rules-meant u (λ w. sound-at w u h .1) (isEnabled (u .master)) (u .control .chain) (u .control .note) (u .control .bus) (h .half) (h .owned)
+      }
+  meant b (as-intended (begins-unit w t p) r) =
+      let c = at w u in
+      record {
+        no-chain = t .calm .chain;
+        owner = in-turn w c t (able (c .pending) (requests (c .mode) (c .line)) (c .status .nac) (c .interrupt .sip) (c .status .ca) (is-candidate w u t) p);
+      }
+  meant b (as-intended (idle t) r) = tt
+  meant b (refused i r) = tt
 
 -- ---- what the step does
 
@@ -219,7 +183,7 @@ module _ (u : Controller) (h : WellFormed u) where
     fetched-owned Complete false false c k e g = free-owned note on (λ v. at v (put w c k)) (u .control .bus) (f .free)
 
     fetch-well : (eop : Bool) (m : List ℕ) → WellFormed (fetchOf w s eop u m .state)
-    unfolding fetchOf
+    unfolding fetchOf dropOf
     fetch-well true m =
         let c = droppedOf (at w u) in
         let k = u .control ⟨chain≔ NoChain ⟩ in
@@ -299,7 +263,7 @@ module _ (u : Controller) (h : WellFormed u) where
     hold-well true = end-well (endOf w eopAlone (at w u)) (u .control .served) (ended-well w eopAlone (at w u) (sound-at w u h .0) (f .owner .clear))
     hold-well false = h
 
-  performed-well : (x : Choice) (eop : Bool) (z : Spaces) → Meant x (u .control .chain) (u .control .bus) note on (λ v. at v u)
+  performed-well : (x : Choice) (eop : Bool) (z : Spaces) → Meant x u
       → WellFormed (performOf x eop u z .stepped .state)
   unfolding performOf
   performed-well chosen.Disabled eop z f = h
@@ -318,7 +282,7 @@ module _ (u : Controller) (h : WellFormed u) where
 
   pub step-well : (eop : Bool) (z : Spaces) → WellFormed (stepOf eop u z .stepped .state)
   unfolding stepOf
-  step-well eop z = performed-well (choice u) eop z (choice-meant u h)
+  step-well eop z = performed-well (choice (boardOf z) u) eop z (meant u h (boardOf z) (why (boardOf z) u))
 
 -- ---- the run, by its steps
 

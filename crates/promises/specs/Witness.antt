@@ -30,12 +30,13 @@ use Rattle.request.specs.Request.{requests}
 use Rattle.channel.specs.Ending.{movedBy, unended, afterUnit}
 use Rattle.control.specs.declared.Chain.the-variants.{NoChain}
 use Rattle.control.specs.declared.Bus.the-variants.{Free}
-use Rattle.rules.specs.declared.Served.the-variants.{Nobody}
+use Rattle.control.specs.declared.Served.the-variants.{Nobody}
 use Rattle.rules.specs.declared.Choice.{Choice}
 use Rattle.rules.specs.declared.Choice.the-variants as chosen
 use Rattle.controller.specs.Controller.{at, with}
-use Rattle.choosing.specs.Channels.{keeper, begins, interleaves}
-use Rattle.controller.specs.Choice.{candidate, choice}
+use Rattle.choosing.specs.Channels.{interleaves}
+use Rattle.controller.specs.Choice.{turn, choice}
+use Rattle.rules.specs.Rules.{intentOf, choiceOf}
 use Rattle.controller.specs.Step.{unitOf, performOf, stepOf}
 use Rattle.port.specs.declared.Which.{Which}
 use Rattle.port.specs.declared.Which.the-variants.{One, Two}
@@ -98,11 +99,11 @@ unfolding found start working operationOf look at
 at-start = record { op = refl; source = refl; count = refl; pattern-is = refl; mask-is = refl; control-is = refl; pending = refl; spared = refl }
 
 away : Every step (Away One (Area 5 (place One Byte start 5 0x4D4D 0 2 fits))) 3 found
-unfolding found start working stepOf performOf choice candidate begins keeper isCandidate requests interleaves unitRefusal oddWord worked datumAt storedAt movedOf compared comparison steppedSet placeOf steppedOn directionOf operationOf requestModeOf look unitOf at with afterUnit movedBy some unended
+unfolding found start working stepOf performOf choice choiceOf intentOf turn isCandidate requests interleaves unitRefusal oddWord worked datumAt storedAt movedOf compared comparison steppedSet placeOf steppedOn directionOf operationOf requestModeOf look unitOf at with afterUnit movedBy some unended
 away = ((λ e. absurd (one-not-two e)), ((λ e. absurd (one-not-two e)), ((λ e. absurd (one-not-two e)), tt)))
 
 third : (owns One (next-choice (iter step 2 found)) ≡ true) × (done (seen One) 2 found ≡ 2)
-unfolding found start working stepOf performOf choice candidate begins keeper isCandidate requests interleaves unitRefusal oddWord worked datumAt storedAt movedOf compared comparison steppedSet placeOf steppedOn directionOf operationOf requestModeOf look unitOf at with afterUnit movedBy some unended
+unfolding found start working stepOf performOf choice choiceOf intentOf turn isCandidate requests interleaves unitRefusal oddWord worked datumAt storedAt movedOf compared comparison steppedSet placeOf steppedOn directionOf operationOf requestModeOf look unitOf at with afterUnit movedBy some unended
 third = (refl, refl)
 
 pub search-witness : Searched One Byte start 5 0x4D4D 0 2 fits 2 2 found
@@ -134,11 +135,11 @@ ready = record {
 
 -- unit, given back, unit, given back, unit, given back, unit
 quiet : Every step (λ x. Fine (answer x)) 7 pair
-unfolding pair working stepOf performOf choice candidate begins keeper isCandidate requests interleaves unitRefusal oddWord worked datumAt storedAt movedOf compared comparison steppedSet placeOf steppedOn directionOf operationOf requestModeOf look unitOf at with afterUnit movedBy some unended
+unfolding pair working stepOf performOf choice choiceOf intentOf turn isCandidate requests interleaves unitRefusal oddWord worked datumAt storedAt movedOf compared comparison steppedSet placeOf steppedOn directionOf operationOf requestModeOf look unitOf at with afterUnit movedBy some unended
 quiet = (refl, (tt, (refl, (tt, (refl, (tt, (refl, tt)))))))
 
 pub turns-witness : (count₁ view 7 pair ≡ 2) × (count₂ view 7 pair ≡ 2)
-unfolding pair working stepOf performOf choice candidate begins keeper isCandidate requests interleaves unitRefusal oddWord worked datumAt storedAt movedOf compared comparison steppedSet placeOf steppedOn directionOf operationOf requestModeOf look unitOf at with afterUnit movedBy some unended
+unfolding pair working stepOf performOf choice choiceOf intentOf turn isCandidate requests interleaves unitRefusal oddWord worked datumAt storedAt movedOf compared comparison steppedSet placeOf steppedOn directionOf operationOf requestModeOf look unitOf at with afterUnit movedBy some unended
 turns-witness = (refl, refl)
 
 -- channel 1 keeps to memory and channel 2 to I/O
@@ -175,7 +176,7 @@ clash (Memory a) x y = y
 clash (Io a) x y = x
 
 one-there : (i : ℕ) → i < 7 → in-memory (unit-reads (state (iter step i pair) .one)) × in-memory (places (unit-writes (state (iter step i pair) .one)))
-unfolding pair working stepOf performOf choice candidate begins keeper isCandidate requests interleaves unitRefusal oddWord worked datumAt storedAt movedOf compared comparison steppedSet placeOf steppedOn directionOf operationOf requestModeOf look unitOf at with afterUnit movedBy some unended
+unfolding pair working stepOf performOf choice choiceOf intentOf turn isCandidate requests interleaves unitRefusal oddWord worked datumAt storedAt movedOf compared comparison steppedSet placeOf steppedOn directionOf operationOf requestModeOf look unitOf at with afterUnit movedBy some unended
 one-there zero b = (tt, tt)
 one-there (suc zero) b = (tt, tt)
 one-there (suc (suc zero)) b = (tt, tt)
@@ -186,7 +187,7 @@ one-there (suc (suc (suc (suc (suc (suc zero)))))) b = (tt, tt)
 one-there (suc (suc (suc (suc (suc (suc (suc i))))))) b = absurd (let x : 7 + i < 7 = (let h : suc (suc (suc (suc (suc (suc (suc i)))))) < 7 = b in omega arith) in omega arith)
 
 two-there : (i : ℕ) → i < 7 → in-io (unit-reads (state (iter step i pair) .two)) × in-io (places (unit-writes (state (iter step i pair) .two)))
-unfolding pair working stepOf performOf choice candidate begins keeper isCandidate requests interleaves unitRefusal oddWord worked datumAt storedAt movedOf compared comparison steppedSet placeOf steppedOn directionOf operationOf requestModeOf look unitOf at with afterUnit movedBy some unended
+unfolding pair working stepOf performOf choice choiceOf intentOf turn isCandidate requests interleaves unitRefusal oddWord worked datumAt storedAt movedOf compared comparison steppedSet placeOf steppedOn directionOf operationOf requestModeOf look unitOf at with afterUnit movedBy some unended
 two-there zero b = (tt, tt)
 two-there (suc zero) b = (tt, tt)
 two-there (suc (suc zero)) b = (tt, tt)
@@ -214,7 +215,7 @@ interleave-witness = demand3 7 pair ready quiet
 
 -- two units of each channel: the bytes of both have moved
 pub interleaved : (iter step 7 pair .spaces .memory ≡ 10 ∷ 20 ∷ 10 ∷ 20 ∷ []) × (iter step 7 pair .spaces .io ≡ 30 ∷ 0 ∷ 40 ∷ 0 ∷ 30 ∷ 0 ∷ 40 ∷ 0 ∷ [])
-unfolding pair working stepOf performOf choice candidate begins keeper isCandidate requests interleaves unitRefusal oddWord worked datumAt storedAt movedOf compared comparison steppedSet placeOf steppedOn directionOf operationOf requestModeOf look unitOf at with afterUnit movedBy some unended
+unfolding pair working stepOf performOf choice choiceOf intentOf turn isCandidate requests interleaves unitRefusal oddWord worked datumAt storedAt movedOf compared comparison steppedSet placeOf steppedOn directionOf operationOf requestModeOf look unitOf at with afterUnit movedBy some unended
 interleaved = (refl, refl)
 
 pub as-one-after-the-other : state (iter step 7 pair)

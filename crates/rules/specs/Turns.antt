@@ -3,8 +3,8 @@ use mathlib.Core.Path.{_≡_, refl}
 use mathlib.Core.Bool.{true}
 use Rattle.port.specs.declared.Which.{Which}
 use Rattle.port.specs.declared.Which.the-variants.{One, Two}
-use Rattle.rules.specs.declared.Served.{Served}
-use Rattle.rules.specs.declared.Served.the-variants.{Nobody, Last}
+use Rattle.control.specs.declared.Served.{Served}
+use Rattle.control.specs.declared.Served.the-variants.{Nobody, Last}
 use Rattle.rules.specs.declared.Turn.the-variants.{Whose}
 use Rattle.rules.specs.Rules.{turnBy}
 

@@ -10,25 +10,24 @@ use Rattle.space.specs.Space.{Spaces, spaces}
 use Rattle.controller.specs.declared.Controller.{Controller}
 use Rattle.controller.specs.declared.Answer.{Answer}
 use Rattle.controller.specs.declared.Answer.the-variants.{Refused}
-use Rattle.controller.specs.Step.{Outcome, outcome, says}
-use Rattle.controller.specs.declared.Strode.{Strode}
-use Rattle.controller.specs.Stride.{Stride, strode}
+use Rattle.controller.specs.Step.{Outcome, outcome, RunOutcome, ranAs, says}
+use Rattle.controller.specs.declared.Ran.{Ran}
 use Rattle.running.specs.Run.{stops, advanced, advanceOf, runOf}
 use Rattle.running.specs.Strides.{Strides}
 
 -- a stride that ends the run, and one after which it goes on
-module _ (eop : Bool) (n k : ℕ) (o : Outcome) (s : Stride) (r : Strode) (z : Spaces) (t : Strides eop n k o s) (e : strode r z ≡ s) where
+module _ (eop : Bool) (n k : ℕ) (o : Outcome) (s : RunOutcome) (r : Ran) (z : Spaces) (t : Strides eop n k o s) (e : ranAs r z ≡ s) where
   pub stopped : stops (r .answer) ≡ true → record { last = outcome (says (r .state) (r .answer)) z; steps = k } ≡ advanced eop (n - k) k o
-  stopped q = ap (λ (x : Stride). record { last = x .last; steps = k }) e ∙ t .stop (sym (ap (λ (x : Stride). stops (x .last .stepped .answer)) e) ∙ q)
+  stopped q = ap (λ (x : RunOutcome). record { last = x .last; steps = k }) e ∙ t .stop (sym (ap (λ (x : RunOutcome). stops (x .last .stepped .answer)) e) ∙ q)
 
   pub turned : stops (r .answer) ≡ false
       → advanced eop (n - (k + r .steps)) (k + r .steps) (outcome (says (r .state) (r .answer)) z) ≡ advanced eop (n - k) k o
   turned q =
-      ap (λ (x : Stride). advanced eop (n - (k + x .steps)) (k + x .steps) (x .last)) e
-      ∙ t .on (sym (ap (λ (x : Stride). stops (x .last .stepped .answer)) e) ∙ q)
+      ap (λ (x : RunOutcome). advanced eop (n - (k + x .steps)) (k + x .steps) (x .last)) e
+      ∙ t .on (sym (ap (λ (x : RunOutcome). stops (x .last .stepped .answer)) e) ∙ q)
 
   pub counts : (0 < r .steps) × (k + r .steps ≤ n)
-  counts = subst (λ (x : Stride). (0 < x .steps) × (k + x .steps ≤ n)) (sym e) (t .some, t .within)
+  counts = subst (λ (x : RunOutcome). (0 < x .steps) × (k + x .steps ≤ n)) (sym e) (t .some, t .within)
 
 pub spent : (eop : Bool) (n k : ℕ) (o : Outcome) → k ≤ n → n ≤ k → record { last = o; steps = k } ≡ advanced eop (n - k) k o
 unfolding advanced

@@ -3,8 +3,8 @@ use mathlib.Core.Path.{_≡_, refl}
 use mathlib.Core.Bool.{Bool, true, false, cond}
 use Rattle.space.specs.Space.{Spaces}
 use Rattle.controller.specs.declared.Controller.{Controller}
-use Rattle.controller.specs.Step.{Outcome, stepOf}
-use Rattle.running.specs.Run.{RunOutcome, stops, advanced, advanceOf}
+use Rattle.controller.specs.Step.{RunOutcome, stepOf}
+use Rattle.running.specs.Run.{stops, advanced, advanceOf}
 
 pub by-one : (eop : Bool) (u : Controller) (z : Spaces) → advanceOf eop 1 u z .last ≡ stepOf eop u z
 unfolding advanceOf advanced

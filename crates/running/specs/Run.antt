@@ -6,16 +6,7 @@ use Rattle.space.specs.Space.{Spaces}
 use Rattle.controller.specs.declared.Controller.{Controller}
 use Rattle.controller.specs.declared.Answer.{Answer}
 use Rattle.controller.specs.declared.Answer.the-variants.{Refused, Disabled, Idle, GivenBack, Holding, Fetched, Dropped, Unit, Ended}
-use Rattle.controller.specs.Step.{Outcome, outcome, says, stepOf}
-use Rattle.running.specs.declared.Ran.{Ran}
-
--- All that a run leaves: the last step's outcome, and the steps before one that stops it.
-pub record RunOutcome : Type 0 where
-  pub last : Outcome
-  pub steps : ℕ
-
-abbrev pub ranAs : Ran → Spaces → RunOutcome
-ranAs r z = record { last = outcome (says (r .state) (r .answer)) z; steps = r .steps }
+use Rattle.controller.specs.Step.{Outcome, outcome, RunOutcome, says, stepOf}
 
 -- Run stops on a refusal, "idle", "disabled" or "holding".
 abbrev pub stops : Answer → Bool
@@ -24,9 +15,9 @@ stops Disabled = true
 stops Idle = true
 stops (GivenBack b) = false
 stops (Holding w) = true
-stops (Fetched w) = false
+stops (Fetched w d) = false
 stops (Dropped w) = false
-stops (Unit w why) = false
+stops (Unit w d) = false
 stops (Ended w) = false
 
 abbrev pub nextBy : Bool → Outcome → Outcome

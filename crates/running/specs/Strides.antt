@@ -26,13 +26,16 @@ use Rattle.controller.specs.declared.Controller.{Controller}
 use Rattle.controller.specs.declared.Stepped.{Stepped}
 use Rattle.controller.specs.declared.Answer.{Answer}
 use Rattle.controller.specs.Controller.{at}
+use Rattle.board.specs.Board.{boardOf}
+use Rattle.board.specs.Laws.{same-board}
+use Rattle.unit.specs.Laws.{worked-size}
 use Rattle.controller.specs.Choice.{choice}
 use Rattle.controller.specs.Fetching.{fetchedBy, fetchOf}
-use Rattle.controller.specs.Step.{Outcome, outcome, says, workOf, unitOf, performOf, stepOf}
-use Rattle.controller.specs.Stride.{Stride, strode, takeTurns, pairOf, rested, unitDone, unitsBy, fetchesBy, single, strideBy, strideOf}
-use Rattle.controller.specs.StrideLaws.{fetchedOn, at-fetched, fetch-again, fetch-joins, unrested, one-unit}
-use Rattle.controller.specs.PairLaws.{flows, goes, goneBy, leaves, passes, flows-on, comes, joins}
-use Rattle.running.specs.Run.{RunOutcome, stops, nextBy, advanced}
+use Rattle.controller.specs.Step.{Outcome, outcome, RunOutcome, ranAs, says, workOf, unitOf, performOf, stepOf}
+use Rattle.strides.specs.Stride.{takeTurns, pairOf, rested, unitDone, unitsBy, fetchesBy, single, strideBy, strideOf}
+use Rattle.strides.specs.StrideLaws.{fetchedOn, at-fetched, fetch-again, fetch-joins, unrested, one-unit}
+use Rattle.strides.specs.PairLaws.{flows, goes, goneBy, leaves, passes, flows-on, comes, joins}
+use Rattle.running.specs.Run.{stops, nextBy, advanced}
 
 -- ---- one step, at the numbers that a loop has
 
@@ -81,14 +84,14 @@ module _ {S R : Type 0} (t : Turns S R) (eop : Bool) (out : R → Outcome) (P : 
 
 -- ---- units that follow each other, of one channel or of two in turn
 
-unit-step : (w : Which) (eop : Bool) (u : Controller) (z : Spaces) → choice u ≡ Unit w
+unit-step : (w : Which) (eop : Bool) (u : Controller) (z : Spaces) → choice (boardOf z) u ≡ Unit w
     → outcome (unitOf w eop u (worked (workOf (at w u)) z .moved)) (worked (workOf (at w u)) z .spaces) ≡ stepOf eop u z
 unfolding stepOf performOf
 unit-step w eop u z e = sym (ap (λ (c : Choice). performOf c eop u z) e)
 
 -- the controller stands before the pair's unit, and what a unit leaves is what it would leave of u with the pair's registers
 record Units (both : Bool) (u : Controller) (s : UnitAt) (o : Outcome) : Type 0 where
-  chosen : choice (o .stepped .state) ≡ Unit (s .pair .which)
+  chosen : choice (boardOf (o .spaces)) (o .stepped .state) ≡ Unit (s .pair .which)
   flows : flows both (s .pair .which) (o .stepped .state) ≡ true
   pair : pairOf (s .pair .which) (o .stepped .state) ≡ s .pair
   spaces : o .spaces ≡ s .spaces
@@ -125,9 +128,10 @@ module _ (both : Bool) (u : Controller) where
       let m = worked (s .pair .work) (s .spaces) .moved in
       let g = goes m (after both (pairOf w v) m .work) (ap (λ (q : Pair). follows m (after both q m .work)) (p .pair) ∙ f) in
       let there : unitOf w false (rested (other w) (s .pair .other) u) m .state ≡ goneBy both w v m = ap (λ (y : Stepped). y .state) (sym (as-one s o p m) ∙ leaves w v m both (p .flows) (g .0)) in
+      let kept = same-board (worked-size (s .pair .work) (s .spaces)) ∙ sym (ap boardOf (p .spaces)) in
       let next : after both (s .pair) m ≡ after both (pairOf w v) m = sym (ap (λ (q : Pair). after both q m) (p .pair)) in
       record {
-        chosen = ap choice there ∙ comes w v m both (p .flows) (g .1) (p .chosen) ∙ sym (ap (λ (q : Pair). Unit (q .which)) next);
+        chosen = (λ i. choice (kept i) (there i)) ∙ comes w v m (boardOf (o .spaces)) both (p .flows) (g .1) (p .chosen) ∙ sym (ap (λ (q : Pair). Unit (q .which)) next);
         flows = (λ i. flows both (next i .which) (there i)) ∙ flows-on w v m both (p .flows);
         pair = (λ i. pairOf (next i .which) (there i)) ∙ passes w v m both (g .0) ∙ sym next;
         spaces = refl;
@@ -137,7 +141,7 @@ module _ (both : Bool) (u : Controller) where
 -- ---- words of a chain that follow each other
 
 record Fetches (w : Which) (u : Controller) (z : Spaces) (s : FetchAt) (o : Outcome) : Type 0 where
-  chosen : choice (o .stepped .state) ≡ Fetch w (s .stage)
+  chosen : choice (boardOf (o .spaces)) (o .stepped .state) ≡ Fetch w (s .stage)
   channel : at w (o .stepped .state) ≡ s .channel
   spaces : o .spaces ≡ z
   same : (l : Loaded) → fetchedBy w l (o .stepped .state) ≡ fetchedBy w l u
@@ -146,7 +150,7 @@ module _ (w : Which) (u : Controller) (z : Spaces) where
   abbrev fetch-out : Loaded → Outcome
   fetch-out l = outcome (fetchedBy w l u) z
 
-  fetch-step : (v : Controller) (s : Stage) → choice v ≡ Fetch w s → outcome (fetchOf w s false v (z .memory)) z ≡ stepOf false v z
+  fetch-step : (v : Controller) (s : Stage) → choice (boardOf z) v ≡ Fetch w s → outcome (fetchOf w s false v (z .memory)) z ≡ stepOf false v z
   unfolding stepOf performOf
   fetch-step v s e = sym (ap (λ (c : Choice). performOf c false v z) e)
 
@@ -157,7 +161,7 @@ module _ (w : Which) (u : Controller) (z : Spaces) where
       let k : fetchTurns (z .memory) .result s ≡ fetchTurns (z .memory) .result (record { stage = s .stage; channel = at w v }) = sym (λ i. fetchTurns (z .memory) .result (record { stage = s .stage; channel = p .channel i })) in
       ap fetch-out k
       ∙ sym (ap (λ (y : Stepped). outcome y z) (p .same (fetchTurns (z .memory) .result (record { stage = s .stage; channel = at w v }))))
-      ∙ fetch-step v (s .stage) (p .chosen)
+      ∙ fetch-step v (s .stage) (sym (ap (λ (x : Spaces). choice (boardOf x) v) (p .spaces)) ∙ p .chosen)
       ∙ sym (ap (stepOf false v) (p .spaces))
 
   fetch-next : (s : FetchAt) (o : Outcome) → Fetches w u z s o → fetchTurns (z .memory) .follows s (fetchTurns (z .memory) .result s) ≡ true
@@ -170,7 +174,7 @@ module _ (w : Which) (u : Controller) (z : Spaces) where
           let v = o .stepped .state in
           let there : fetchedBy w (record { channel = c; next = More q }) u .state ≡ fetchedOn w v c q = ap (λ (y : Stepped). y .state) (sym (p .same (record { channel = c; next = More q }))) in
           record {
-            chosen = ap choice there ∙ fetch-again w v c q (s .stage) (p .chosen);
+            chosen = ap (choice (boardOf z)) there ∙ fetch-again w v c q (boardOf z) (s .stage) (sym (ap (λ (x : Spaces). choice (boardOf x) v) (p .spaces)) ∙ p .chosen);
             channel = ap (at w) there ∙ at-fetched w v c q;
             spaces = refl;
             same = λ l. ap (fetchedBy w l) there ∙ fetch-joins w v c q l ∙ p .same l;
@@ -180,7 +184,7 @@ module _ (w : Which) (u : Controller) (z : Spaces) where
 -- ---- a stride
 
 -- what a loop makes of a stride, from the outcome o with k of N steps done
-pub record Strides (eop : Bool) (N k : ℕ) (o : Outcome) (s : Stride) : Type 0 where
+pub record Strides (eop : Bool) (N k : ℕ) (o : Outcome) (s : RunOutcome) : Type 0 where
   pub some : 0 < s .steps
   pub within : k + s .steps ≤ N
   pub on : stops (s .last .stepped .answer) ≡ false → advanced eop (N - (k + s .steps)) (k + s .steps) (s .last) ≡ advanced eop (N - k) k o
@@ -190,7 +194,7 @@ module _ (N k : ℕ) (u : Controller) (a : Answer) (z : Spaces) (h : k < N) wher
   abbrev from : Outcome
   from = outcome (says u a) z
 
-  alone : (eop : Bool) (c : Choice) → choice u ≡ c → Strides eop N k from (single (performOf c eop u z))
+  alone : (eop : Bool) (c : Choice) → choice (boardOf z) u ≡ c → Strides eop N k from (single (performOf c eop u z))
   unfolding stepOf
   alone eop c e =
       let p : performOf c eop u z ≡ stepOf eop u z = sym (ap (λ (x : Choice). performOf x eop u z) e) in
@@ -215,7 +219,7 @@ module _ (N k : ℕ) (u : Controller) (a : Answer) (z : Spaces) (h : k < N) wher
         stop = λ q. absurd (true≢false (sym q ∙ unstopped (inARow t (N - k - 1) 0 s .last)));
       }
 
-  of-units : (both : Bool) (w : Which) → choice u ≡ Unit w → flows both w u ≡ true → Strides false N k from (unitsBy false u (onwards both (N - k - 1) 0 (pairOf w u) z))
+  of-units : (both : Bool) (w : Which) → choice (boardOf z) u ≡ Unit w → flows both w u ≡ true → Strides false N k from (unitsBy false u (onwards both (N - k - 1) 0 (pairOf w u) z))
   of-units both w c f =
       let s : UnitAt = record { pair = pairOf w u; spaces = z } in
       of-row (unitTurns both) (unitDone false u) s (unit-on both u)
@@ -223,18 +227,18 @@ module _ (N k : ℕ) (u : Controller) (a : Answer) (z : Spaces) (h : k < N) wher
       (record { chosen = c; flows = f; pair = refl; spaces = refl; same = λ x y m. refl })
       (omega arith))
 
-  one-of : (eop both : Bool) (w : Which) → choice u ≡ Unit w → Strides eop N k from (unitsBy eop u (onwards both 0 0 (pairOf w u) z))
+  one-of : (eop both : Bool) (w : Which) → choice (boardOf z) u ≡ Unit w → Strides eop N k from (unitsBy eop u (onwards both 0 0 (pairOf w u) z))
   one-of eop both w c = subst (Strides eop N k from) (sym (one-unit both eop w u z)) (alone eop (Unit w) c)
 
-  by-limit : (eop : Bool) (w : Which) → choice u ≡ Unit w → (both : Bool) → takeTurns u ≡ both → (r : Bool) → isDedicated (requestModeOf (at w u .mode)) ≡ r
+  by-limit : (eop : Bool) (w : Which) → choice (boardOf z) u ≡ Unit w → (both : Bool) → takeTurns u ≡ both → (r : Bool) → isDedicated (requestModeOf (at w u .mode)) ≡ r
       → Strides eop N k from (unitsBy eop u (onwards both (cond (not eop && (both || r)) (N - k) 1 - 1) 0 (pairOf w u) z))
   by-limit false w c true t r d = of-units true w c t
   by-limit false w c false t true d = of-units false w c d
   by-limit false w c false t false d = one-of false false w c
   by-limit true w c both t r d = one-of true both w c
 
-  by-eop : (eop : Bool) (w : Which) (stage : Stage) → choice u ≡ Fetch w stage → Strides eop N k from (strode (fetchesBy eop w stage (N - k) u (z .memory)) z)
-  unfolding performOf
+  by-eop : (eop : Bool) (w : Which) (stage : Stage) → choice (boardOf z) u ≡ Fetch w stage → Strides eop N k from (ranAs (fetchesBy eop w stage (N - k) u (z .memory)) z)
+  unfolding performOf fetchOf
   by-eop true w stage c = alone true (Fetch w stage) c
   by-eop false w stage c =
       let s : FetchAt = record { stage = stage; channel = at w u } in
@@ -243,7 +247,7 @@ module _ (N k : ℕ) (u : Controller) (a : Answer) (z : Spaces) (h : k < N) wher
       (record { chosen = c; channel = refl; spaces = refl; same = λ l. refl })
       (omega arith))
 
-  by-choice : (eop : Bool) (c : Choice) → choice u ≡ c → Strides eop N k from (strideBy c (N - k) eop u z)
+  by-choice : (eop : Bool) (c : Choice) → choice (boardOf z) u ≡ c → Strides eop N k from (strideBy c (N - k) eop u z)
   unfolding strideBy
   by-choice eop Disabled e = alone eop Disabled e
   by-choice eop (Refused n) e = alone eop (Refused n) e
@@ -256,4 +260,4 @@ module _ (N k : ℕ) (u : Controller) (a : Answer) (z : Spaces) (h : k < N) wher
 
   pub strides : (eop : Bool) → Strides eop N k from (strideOf (N - k) eop u z)
   unfolding strideOf
-  strides eop = by-choice eop (choice u) refl
+  strides eop = by-choice eop (choice (boardOf z) u) refl

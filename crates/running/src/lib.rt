@@ -2,15 +2,11 @@
 ghost use mathlib.Core.Path.{_≡_};
 ghost use mathlib.Core.Bool.{false};
 ghost use Rattle.space.specs.Space.{spaces};
-ghost use Rattle.running.specs.Run.{stops, ranAs, advanceOf, runOf};
+ghost use Rattle.controller.specs.Step.{ranAs};
+ghost use Rattle.running.specs.Run.{stops, advanceOf, runOf};
 use controller::Answer;
 use controller::Controller;
-
-pub struct Ran {
-    pub state: Controller,
-    pub answer: Answer,
-    pub steps: u32,
-}
+use controller::Ran;
 
 fn is_stop(a: Answer) -> bool
     ensures { λ r. ⌜ r ≡ stops a ⌝ }
@@ -21,7 +17,7 @@ fn is_stop(a: Answer) -> bool
         Answer::Idle => true,
         Answer::GivenBack(_) => false,
         Answer::Holding(_) => true,
-        Answer::Fetched(_) => false,
+        Answer::Fetched(_, _) => false,
         Answer::Dropped(_) => false,
         Answer::Unit(_, _) => false,
         Answer::Ended(_) => false,
@@ -37,7 +33,7 @@ pub fn advance(u: Controller, budget: u32, eop: bool, memory: &mut [u8], io: &mu
     let mut answer = Answer::Idle;
     let mut done: u32 = 0;
     while done < budget {
-        let next = state.stride(budget - done, eop, memory, io);
+        let next = strides::stride(state, budget - done, eop, memory, io);
         state = next.state;
         answer = next.answer;
         if is_stop(answer) {

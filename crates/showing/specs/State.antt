@@ -14,8 +14,8 @@ use Rattle.control.specs.declared.Bus.{Bus}
 use Rattle.control.specs.declared.Bus.the-variants.{Free, Kept}
 use Rattle.control.specs.declared.Chain.{Chain}
 use Rattle.control.specs.declared.Chain.the-variants.{NoChain, Of}
-use Rattle.rules.specs.declared.Served.{Served}
-use Rattle.rules.specs.declared.Served.the-variants.{Nobody, Last}
+use Rattle.control.specs.declared.Served.{Served}
+use Rattle.control.specs.declared.Served.the-variants.{Nobody, Last}
 use Rattle.controller.specs.declared.Controller.{Controller}
 use Rattle.controller.specs.Controller.{at}
 use Rattle.reading.specs.Reading.{waitsForBus}

@@ -7,10 +7,10 @@ use address::Address;
 use address::Set;
 use control::Bus;
 use control::Chain;
+use control::Served;
 use controller::Controller;
 use port::Which;
 use reload::Stage;
-use rules::Served;
 use text::Text;
 
 // ---- the controller's

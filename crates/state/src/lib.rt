@@ -9,6 +9,7 @@ use channel::Status;
 use control::Bus;
 use control::Chain;
 use control::Control;
+use control::Served;
 use controller::Controller;
 use mode::Mode;
 use port::Which;
@@ -16,7 +17,6 @@ use reasons::Reasons;
 use reload::Progress;
 use reload::Stage;
 use request::Line;
-use rules::Served;
 
 fn stage_of(t: u16, p: Progress) -> Stage
     ensures { λ r. ⌜ r ≡ stageOf t p ⌝ }

@@ -10,12 +10,12 @@ use channel::Status;
 use control::Bus;
 use control::Chain;
 use control::Control;
+use control::Served;
 use controller::Controller;
 use mode::Mode;
 use port::Which;
 use reasons::Reasons;
 use request::Line;
-use rules::Served;
 
 pub enum LineAnswer {
     Refused(u8),

@@ -1,6 +1,6 @@
 -- A datum of either width is the value of its bytes, and is written as its bytes; a unit writes its accesses and nothing else. Assumes
 -- nothing.
-use mathlib.Core.Path.{_≡_, refl}
+use mathlib.Core.Path.{_≡_, refl, subst}
 use mathlib.Core.Bool.{Bool}
 use mathlib.Core.List.{List, []}
 use Prim.Native.Nat.{ℕ}
@@ -9,10 +9,13 @@ use Rattle.space.specs.declared.Width.the-variants.{Byte, Word}
 use Rattle.space.specs.declared.Place.{Place}
 use Rattle.space.specs.declared.Place.the-variants.{Memory, Io}
 use Rattle.space.specs.Space.{Spaces, readAt, written}
-use Rattle.laws.specs.Local.{Write, gets, puts, stores, writing, puts-writing, bytesAt}
+use Rattle.space.specs.Laws.{SameSize}
+use Rattle.laws.specs.Local.{Write, gets, puts, stores, writing, puts-writing, bytesAt, size-puts}
 use Rattle.operation.specs.declared.Operation.{Operation}
 use Rattle.address.specs.declared.Set.{Set}
-use Rattle.unit.specs.Unit.{bytes, writesOf, valueOf, bytesOf, datumOf, writtenOf, storedAt}
+use Rattle.mode.specs.Mode.{operationOf, isFlipped}
+use Rattle.unit.specs.declared.Work.{Work}
+use Rattle.unit.specs.Unit.{bytes, readsOf, writesOf, valueOf, bytesOf, datumOf, writtenOf, datumAt, storedAt, worked}
 
 pub value-read : (w : Width) (z : Spaces) (p : Place) → valueOf w (gets z (bytesAt w p [])) ≡ readAt w z p
 value-read Byte z (Memory a) = refl
@@ -33,3 +36,12 @@ writesBy o flip s = writing 0 (bytes (writesOf o flip s)) (λ d. writtenOf o fli
 pub writes-exactly : (o : Operation) (flip : Bool) (s : Set) (d : List ℕ) (z : Spaces) → puts (writesBy o flip s) d z ≡ storedAt o flip s (datumOf o flip s d) z
 unfolding storedAt
 writes-exactly o flip s d z = puts-writing 0 (bytes (writesOf o flip s)) (λ x. writtenOf o flip s (datumOf o flip s x)) d z
+
+-- a unit leaves both spaces as long as they were
+pub worked-size : (w : Work) (z : Spaces) → SameSize (worked w z .spaces) z
+unfolding worked datumAt
+worked-size w z =
+    let o = operationOf (w .mode) in
+    let flip = isFlipped (w .mode) in
+    let d = gets z (bytes (readsOf o flip (w .set))) in
+    subst (λ (x : Spaces). SameSize x z) (writes-exactly o flip (w .set) d z) (size-puts (writesBy o flip (w .set)) d z)

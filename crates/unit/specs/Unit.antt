@@ -4,6 +4,7 @@ use Prim.Native.Nat.{ℕ, _+_, _*_, _/_, _%_}
 use mathlib.Core.Bool.{Bool, true, false, not, cond, _&&_, _||_}
 use mathlib.Core.List.{List, [], _∷_}
 use lib.ListN.{getD}
+use Rattle.facts.specs.First.{firstOf}
 use Rattle.space.specs.declared.Width.{Width}
 use Rattle.space.specs.declared.Width.the-variants.{Byte, Word}
 use Rattle.space.specs.declared.Place.{Place}
@@ -66,14 +67,12 @@ oddAt Word a = isOdd a
 unfoldable pub oddWord : Operation → Bool → Set → Bool
 oddWord o flip s = (usesA o flip && oddAt (widthOfA o) (s .a)) || (usesB o flip && oddAt (widthOfB o) (s .b))
 
--- 7: operation 2, 3, 6, 7, A or B; then 8; 0 where neither applies.
-abbrev pub refusalOf : Bool → Bool → ℕ
-refusalOf false odd = 7
-refusalOf true true = 8
-refusalOf true false = 0
+-- 7: operation 2, 3, 6, 7, A or B. 8: a word side at an odd address that it uses.
+abbrev pub unitRefusals : Mode → Set → List (Bool × ℕ)
+unitRefusals m s = (not (carried (operationOf m)), 7) ∷ (oddWord (operationOf m) (isFlipped m) s, 8) ∷ []
 
 unfoldable pub unitRefusal : Mode → Set → ℕ
-unitRefusal m s = refusalOf (carried (operationOf m)) (oddWord (operationOf m) (isFlipped m) s)
+unitRefusal m s = firstOf (unitRefusals m s)
 
 -- ---- the datum
 

@@ -32,9 +32,9 @@ answerOf answer.Disabled = bytes "0 disabled"
 answerOf answer.Idle = bytes "0 idle"
 answerOf (answer.GivenBack b) = bytes "0 given back"
 answerOf (answer.Holding w) = channelOf w ⧺ bytes " holding"
-answerOf (answer.Fetched w) = channelOf w ⧺ bytes " fetched"
+answerOf (answer.Fetched w d) = channelOf w ⧺ bytes " fetched"
 answerOf (answer.Dropped w) = channelOf w ⧺ bytes " dropped"
-answerOf (answer.Unit w why) = channelOf w ⧺ bytes " unit" ⧺ reasonsOf why
+answerOf (answer.Unit w d) = channelOf w ⧺ bytes " unit" ⧺ reasonsOf (d .why)
 answerOf (answer.Ended w) = channelOf w ⧺ bytes " ended"
 
 unfoldable pub writeOf : Writing → List ℕ

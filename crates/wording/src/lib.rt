@@ -41,9 +41,9 @@ fn answer(t: Text, a: Answer) -> Text
         Answer::Idle => t.with(b"0 idle"),
         Answer::GivenBack(_) => t.with(b"0 given back"),
         Answer::Holding(w) => t.channel(w).with(b" holding"),
-        Answer::Fetched(w) => t.channel(w).with(b" fetched"),
+        Answer::Fetched(w, _) => t.channel(w).with(b" fetched"),
         Answer::Dropped(w) => t.channel(w).with(b" dropped"),
-        Answer::Unit(w, why) => reasons(t.channel(w).with(b" unit"), why),
+        Answer::Unit(w, d) => reasons(t.channel(w).with(b" unit"), d.why),
         Answer::Ended(w) => t.channel(w).with(b" ended"),
     }
 }

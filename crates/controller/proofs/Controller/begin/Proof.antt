@@ -12,5 +12,5 @@ begin-spec =
     (λ c κs. search needs)
     (λ c. search needs)
     (λ c κs. search needs)
-    (λ c. rw (c .before .enum-told .given .1) (c .begin-choice .ensures))
-    (λ c. rw (c .before .enum-told2 .given .1) (c .begin-choice2 .ensures)))
+    (λ c. rw (c .before .enum-told .given .1) (c .begin-intent .ensures))
+    (λ c. rw (c .before .enum-told2 .given .1) (c .begin-intent2 .ensures)))

@@ -12,5 +12,5 @@ keeper-spec =
     (λ c κs. search needs)
     (λ c. search needs)
     (λ c κs. search needs)
-    (λ c. rw (c .before .enum-told .given .1) (c .keeper-choice .ensures))
-    (λ c. rw (c .before .enum-told2 .given .1) (c .keeper-choice2 .ensures)))
+    (λ c. rw (c .before .enum-told .given .1) (c .keeper-intent .ensures))
+    (λ c. rw (c .before .enum-told2 .given .1) (c .keeper-intent2 .ensures)))

@@ -1,11 +1,10 @@
 use borrow.Author.Needs.{needs}
 use Rattle.controller.specs.Step.{performOf}
-use Rattle.controller.specs.Stride.{strideBy}
 use Rattle.controller.proofs.Controller.perform.Statement.{statement}
 use Rattle.controller.proofs.Controller.perform.Tie as tie
 
 pub perform-spec : {M : Type 1} → statement M
-unfolding strideBy performOf
+unfolding performOf
 perform-spec =
     tie.close
     (tie.spec
@@ -29,7 +28,7 @@ perform-spec =
     (λ c. rw (c .before .enum-told2 .given .1, c .give-back .ensures))
     (λ c. search needs)
     (λ c. search needs)
-    (λ c. rw (c .before .before .before .before .before .before .before .before .choice3 .given .1) (c .before .before .before .before .units .ensures))
+    (λ c. rw (c .before .before .before .before .before .before .before .before .choice3 .given .1) (c .before .before .before .before .unit .ensures))
     (λ c. rw (c .before .before .choice4 .given .1, c .hold .ensures))
     (λ c. rw (c .before .enum-told3 .given .1, c .give-back2 .ensures))
     (λ c. rw (c .enum-told4 .given .1)))

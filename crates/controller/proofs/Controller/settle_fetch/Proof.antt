@@ -1,0 +1,14 @@
+use borrow.Author.Needs.{needs}
+use Rattle.controller.proofs.Laws.{fetched}
+use Rattle.controller.proofs.Controller.settle_fetch.Statement.{statement}
+use Rattle.controller.proofs.Controller.settle_fetch.Tie as tie
+
+pub settle-fetch-spec : {M : Type 1} → statement M
+settle-fetch-spec =
+    tie.close
+    (tie.spec
+    (λ c κs. search needs)
+    (λ c κs. search needs)
+    (λ c κs. search needs)
+    (λ c κs. search needs)
+    (λ c. let a = c .before .before .before .before .before .before .args in fetched (a .w) (a .self) _ (a .l) _ _ _ (c .before .before .before .is-requesting .ensures) (c .before .before .is-interleaved .ensures) (c .before .control-fetched .ensures) (c .with-both .ensures)))

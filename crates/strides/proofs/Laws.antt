@@ -1,0 +1,55 @@
+-- What the callees answered gives the definition's stride.
+use mathlib.Core.Path.{_≡_, refl, sym, ap, _∙_}
+use mathlib.Core.Bool.{Bool, true, false, cond}
+use Prim.Native.Nat.{ℕ, _-_}
+use mathlib.Core.List.{List}
+use Rattle.space.specs.Space.{Spaces}
+use Rattle.port.specs.declared.Which.{Which}
+use Rattle.port.specs.Ports.{other}
+use Rattle.mode.specs.declared.RequestMode.{RequestMode}
+use Rattle.mode.specs.Mode.{requestModeOf}
+use Rattle.units.specs.declared.Pair.{Pair}
+use Rattle.units.specs.declared.Carried.{Carried}
+use Rattle.units.specs.Units.{limitOf, carriedAs, onwards, of-one}
+use Rattle.channel.specs.declared.Channel.{Channel}
+use Rattle.reload.specs.declared.Stage.{Stage}
+use Rattle.fetches.specs.declared.Fetched.{Fetched}
+use Rattle.fetches.specs.Fetches.{fetchedAs, fetchesOf}
+use Rattle.rules.specs.declared.Choice.the-variants.{Unit}
+use Rattle.controller.specs.declared.Controller.{Controller}
+use Rattle.controller.specs.declared.Stepped.{Stepped}
+use Rattle.controller.specs.declared.Answer.the-variants as answer
+use Rattle.controller.specs.Controller.{at}
+use Rattle.controller.specs.Fetching.{fetchedBy}
+use Rattle.controller.specs.Step.{outcome, workOf, unitOf}
+use Rattle.strides.specs.Stride.{takeTurns, pairOf, rested, unitsBy, fetchesBy, strideBy}
+use Rattle.strides.specs.StrideLaws.{unrested}
+
+pub fetches : (eop : Bool) (w : Which) (stage : Stage) (left : ℕ) (u : Controller) (m : List ℕ) (c : Channel) (x : Fetched) (s : Controller) → eop ≡ false
+    → c ≡ at w u → fetchedAs x ≡ fetchesOf m (left - 1) 0 stage c → s ≡ fetchedBy w (fetchedAs x .last) u .state
+    → record { state = s; answer = answer.Fetched w (record {}); steps = x .words } ≡ fetchesBy eop w stage left u m
+fetches eop w stage left u m c x s e ec ex es =
+    let row : fetchedAs x ≡ fetchesOf m (left - 1) 0 stage (at w u) = ex ∙ ap (fetchesOf m (left - 1) 0 stage) ec in
+    (λ i. record { state = es i; answer = answer.Fetched w (record {}); steps = x .words })
+    ∙ (λ i. record { state = fetchedBy w (row i .last) u .state; answer = answer.Fetched w (record {}); steps = row i .count })
+    ∙ sym (λ i. fetchesBy (e i) w stage left u m)
+
+-- alone, the other channel rests as it is
+rests-alone : (both : Bool) (n : ℕ) (w : Which) (u : Controller) (x : Carried) (z z′ : Spaces) → carriedAs x z′ ≡ onwards both n 0 (pairOf w u) z
+    → cond both (rested (other (x .which)) (x .rests) u) u ≡ rested (other (x .which)) (x .rests) u
+rests-alone true n w u x z z′ e = refl
+rests-alone false n w u x z z′ e =
+    let d = e ∙ of-one w (workOf (at (other w) u)) n 0 (workOf (at w u)) z in
+    sym ((λ i. rested (other (d i .last .which)) (d i .last .rests) u) ∙ unrested (other w) u)
+
+pub does-units : (w : Which) (left : ℕ) (eop : Bool) (u : Controller) (both : Bool) (r : RequestMode) (limit : ℕ) (p : Pair) (x : Carried) (z z′ : Spaces) (y : Controller) (s : Stepped)
+    → both ≡ takeTurns u → r ≡ requestModeOf (at w u .mode) → limit ≡ limitOf both r left eop → p ≡ pairOf w u → carriedAs x z′ ≡ onwards both (limit - 1) 0 p z
+    → y ≡ cond both (rested (other (x .which)) (x .rests) u) u → s ≡ unitOf (x .which) eop y (x .moved)
+    → record { last = outcome s z′; steps = x .units } ≡ strideBy (Unit w) left eop u z
+unfolding strideBy
+does-units w left eop u both r limit p x z z′ y s eb er el ep e ey es =
+    let most : limit ≡ limitOf (takeTurns u) (requestModeOf (at w u .mode)) left eop = el ∙ (λ i. limitOf (eb i) (er i) left eop) in
+    let row : carriedAs x z′ ≡ onwards both (limit - 1) 0 (pairOf w u) z = e ∙ (λ i. onwards both (limit - 1) 0 (ep i) z) in
+    let rest : y ≡ rested (other (x .which)) (x .rests) u = ey ∙ rests-alone both (limit - 1) w u x z z′ row in
+    (λ i. record { last = outcome ((es ∙ (λ j. unitOf (x .which) eop (rest j) (x .moved))) i) z′; steps = x .units })
+    ∙ (λ i. unitsBy eop u ((row ∙ (λ j. onwards (eb j) (most j - 1) 0 (pairOf w u) z)) i))

@@ -1,0 +1,3 @@
+pub mod Stride
+pub mod StrideLaws
+pub mod PairLaws

@@ -1,0 +1,145 @@
+-- A unit or a word that follows another is the step that comes next, and leaves what it leaves by itself. Assumes nothing.
+use Prim.Native.Nat.{ℕ, _-_}
+use mathlib.Core.Path.{_≡_, refl, sym, ap, subst, _∙_}
+use mathlib.Core.Bool.{Bool, true, false, not, cond, _&&_, _||_, true≢false}
+use Rattle.port.specs.declared.Which.{Which}
+use Rattle.port.specs.declared.Which.the-variants.{One, Two}
+use Rattle.space.specs.Space.{Spaces}
+use Rattle.mode.specs.declared.RequestMode.{RequestMode}
+use Rattle.mode.specs.Mode.{requestModeOf}
+use Rattle.unit.specs.Unit.{worked}
+use Rattle.facts.specs.Rows.{inARow}
+use Rattle.units.specs.Units.{isDedicated, limitOf, onwards}
+use Rattle.port.specs.Ports.{other}
+use Rattle.channel.specs.declared.Channel.{Channel}
+use Rattle.channel.specs.Candidate.{isCandidate}
+use Rattle.request.specs.Request.{requests}
+use Rattle.channel.specs.Ending.{movedBy}
+use Rattle.reload.specs.declared.Stage.{Stage}
+use Rattle.reload.specs.declared.Stage.the-variants.{Entries}
+use Rattle.reload.specs.declared.Progress.{Progress}
+use Rattle.reload.specs.declared.Next.{Next}
+use Rattle.reload.specs.declared.Next.the-variants.{More, Complete}
+use Rattle.chain.specs.declared.Loaded.{Loaded}
+use Rattle.control.specs.declared.Chain.the-variants.{Of}
+use Rattle.control.specs.declared.Control.{Control}
+use Rattle.rules.specs.declared.Choice.{Choice}
+use Rattle.rules.specs.declared.Choice.the-variants.{Disabled, Refused, Fetch, GiveBack, Unit, Hold, Release, Idle}
+use Rattle.rules.specs.Rules.{isEnabled, isInterleaved}
+use Rattle.control.specs.Set.{_⟨chain≔_⟩}
+use Rattle.control.specs.After.{controlFetched}
+use Rattle.controller.specs.declared.Controller.{Controller}
+use Rattle.controller.specs.declared.Answer.the-variants as answer
+use Rattle.controller.specs.Set.{_⟨control≔_⟩}
+use Rattle.controller.specs.Controller.{at, with}
+use Rattle.board.specs.declared.Board.{Board}
+use Rattle.board.specs.Board.{boardOf}
+use Rattle.rules.specs.View.{Calm}
+use Rattle.rules.specs.View.Intends.{goes-on, keeps, begins-chain, begins-unit}
+use Rattle.rules.specs.View.Because.{as-intended}
+use Rattle.controller.specs.Choice.{factsOf, choice}
+use Rattle.controller.specs.Laws.{at-of, control-of, master-of, with-again, Chosen, chosen-at, chooses, is-candidate}
+use Rattle.controller.specs.Fetching.{fetchedBy, fetchOf}
+use Rattle.controller.specs.Step.{outcome, RunOutcome, workOf, unitOf, performOf, stepOf}
+use Rattle.strides.specs.Stride.{takeTurns, pairOf, rested, unitsBy, single, strideBy, strideOf}
+
+-- ---- what is true where a unit comes next
+
+asks : (p r x : Bool) → p ≡ false → (p || (r && x)) ≡ true → r ≡ true
+asks true r x n e = absurd (true≢false n)
+asks false true x n e = refl
+asks false false x n e = absurd (true≢false (sym e))
+
+-- past rules 1 to 3, with an active request
+pub record Asks (w : Which) (u : Controller) : Type 0 where
+  pub calm : Calm (factsOf u)
+  pub asks : requests (at w u .mode) (at w u .line) ≡ true
+
+told : (b : Board) (w : Which) (u : Controller) → Chosen b u (Unit w) → Asks w u
+unfolding isCandidate
+told b w u (as-intended (keeps v k) r) = record { calm = k .calm; asks = k .asks }
+told b w u (as-intended (begins-unit v t p) r) = record {
+  calm = t .calm;
+  asks = asks (at w u .pending) (requests (at w u .mode) (at w u .line)) _ p (is-candidate w u t);
+}
+
+pub unit-asks : (b : Board) (u : Controller) (w : Which) → choice b u ≡ Unit w → Asks w u
+unit-asks b u w e = told b w u (chosen-at b u e)
+
+-- ---- what a word that is fetched leaves, if another follows
+
+enabled-for : (b : Board) (u : Controller) (w : Which) (s : Stage) → Chosen b u (Fetch w s) → isEnabled (u .master) ≡ true
+enabled-for b u w s (as-intended (goes-on v g e c) r) = e
+enabled-for b u w s (as-intended (begins-chain v t p) r) = t .calm .enabled
+
+module _ (w : Which) (u : Controller) (c : Channel) (p : Progress) where
+  abbrev l : Loaded
+  l = record { channel = c; next = More p }
+
+  abbrev pub fetchedOn : Controller
+  fetchedOn = fetchedBy w l u .state
+
+  pub at-fetched : at w fetchedOn ≡ c
+  at-fetched = at-of w c _
+
+  -- the next word comes next
+  pub fetch-again : (b : Board) (s : Stage) → choice b u ≡ Fetch w s → choice b fetchedOn ≡ Fetch w (Entries p)
+  fetch-again b s e =
+      let v = u ⟨control≔ u .control ⟨chain≔ Of w (Entries p) ⟩ ⟩ in
+      let on = ap isEnabled (master-of w c v) ∙ enabled-for b u w s (chosen-at b u e) in
+      chooses b fetchedOn (as-intended (goes-on w (Entries p) on (ap (λ (k : Control). k .chain) (control-of w c v))) refl)
+
+  -- a further word leaves the same as if this one had not been
+  pub fetch-joins : (n : Loaded) → fetchedBy w n fetchedOn ≡ fetchedBy w n u
+  fetch-joins n =
+      let k = control-of w c (u ⟨control≔ u .control ⟨chain≔ Of w (Entries p) ⟩ ⟩) in
+      let m = master-of w c (u ⟨control≔ u .control ⟨chain≔ Of w (Entries p) ⟩ ⟩) in
+      let act = requests (n .channel .mode) (n .channel .line) in
+      (λ i. record { state = with w (n .channel) (fetchedOn ⟨control≔ controlFetched (n .next) (isInterleaved (m i)) act w (k i) ⟩); answer = answer.Fetched w (record {}) })
+      ∙ (λ i. record { state = with w (n .channel) (fetchedOn ⟨control≔ same-fetch (n .next) (isInterleaved (u .master)) act i ⟩); answer = answer.Fetched w (record {}) })
+      ∙ (λ i. record { state = with-again w c (n .channel) u (u .control ⟨chain≔ Of w (Entries p) ⟩) (controlFetched (n .next) (isInterleaved (u .master)) act w (u .control)) i; answer = answer.Fetched w (record {}) })
+    where
+      same-fetch : (x : Next) (cpu act : Bool) → controlFetched x cpu act w (u .control ⟨chain≔ Of w (Entries p) ⟩) ≡ controlFetched x cpu act w (u .control)
+      same-fetch (More q) cpu act = refl
+      same-fetch Complete true act = refl
+      same-fetch Complete false true = refl
+      same-fetch Complete false false = refl
+
+-- ---- one step
+
+-- a channel that has done no unit rests as it is
+pub unrested : (w : Which) (u : Controller) → rested w (workOf (at w u)) u ≡ u
+unfolding at with movedBy
+unrested One u = refl
+unrested Two u = refl
+
+pub one-unit : (both eop : Bool) (w : Which) (u : Controller) (z : Spaces) → unitsBy eop u (onwards both 0 0 (pairOf w u) z) ≡ single (performOf (Unit w) eop u z)
+unfolding inARow performOf
+one-unit both eop w u z =
+    let k = worked (workOf (at w u)) z in
+    ap (λ (v : Controller). single (outcome (unitOf w eop v (k .moved)) (k .spaces))) (unrested (other w) u)
+
+one-at-most : (both : Bool) (r : RequestMode) (eop : Bool) → limitOf both r 1 eop ≡ 1
+one-at-most both r eop = go (not eop && (both || isDedicated r))
+  where
+    go : (b : Bool) → _≡_ {A = ℕ} (cond b 1 1) 1
+    go true = refl
+    go false = refl
+
+by-itself : (c : Choice) (eop : Bool) (u : Controller) (z : Spaces) → strideBy c 1 eop u z ≡ single (performOf c eop u z)
+unfolding strideBy inARow performOf fetchOf
+by-itself Disabled eop u z = refl
+by-itself (Refused n) eop u z = refl
+by-itself (Fetch w stage) true u z = refl
+by-itself (Fetch w stage) false u z = refl
+by-itself GiveBack eop u z = refl
+by-itself (Unit w) eop u z =
+    ap (λ (n : ℕ). unitsBy eop u (onwards (takeTurns u) (n - 1) 0 (pairOf w u) z)) (one-at-most (takeTurns u) (requestModeOf (at w u .mode)) eop)
+    ∙ one-unit (takeTurns u) eop w u z
+by-itself (Hold w) eop u z = refl
+by-itself Release eop u z = refl
+by-itself Idle eop u z = refl
+
+pub alone : (eop : Bool) (u : Controller) (z : Spaces) → strideOf 1 eop u z .last ≡ stepOf eop u z
+unfolding strideOf stepOf
+alone eop u z = ap (λ (s : RunOutcome). s .last) (by-itself (choice (boardOf z) u) eop u z)
