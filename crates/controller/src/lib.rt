@@ -203,13 +203,7 @@ impl Controller {
         let d = l.channel;
         let next = l.next;
         let active = request::is_requesting(d.mode, d.line);
-        let after = control::control_fetched(
-            next,
-            rules::is_interleaved(self.master),
-            active,
-            w,
-            k,
-        );
+        let after = bus::control_fetched(next, rules::is_interleaved(self.master), active, w, k);
         Strode {
             state: self.with_both(w, d, after),
             answer: Answer::Fetched(w),
@@ -301,7 +295,7 @@ impl Controller {
     {
         let k = self.control;
         let cpu = rules::is_interleaved(self.master);
-        let next = control::unended_control(self.request_mode(w), cpu, w, k);
+        let next = bus::unended_control(self.request_mode(w), cpu, w, k);
         self.control = next;
         match w {
             Which::One => {
@@ -324,7 +318,7 @@ impl Controller {
         let k = self.control;
         let e = self.channel(w).end_after(w, why, m);
         let d = e.channel;
-        let next = control::ended_control(e.chains, w, k);
+        let next = bus::ended_control(e.chains, w, k);
         self.with_both(w, d, next)
     }
 
@@ -367,7 +361,7 @@ impl Controller {
             let d = e.channel;
             let k = self.control;
             return Strode {
-                state: self.with_both(w, d, control::held_control(e.chains, w, k)),
+                state: self.with_both(w, d, bus::held_control(e.chains, w, k)),
                 answer: Answer::Ended(w),
                 steps: 1,
             };
@@ -384,7 +378,7 @@ impl Controller {
         ensures { λ r. ⌜ r ≡ once (backOf back self) ⌝ }
     {
         let k = self.control;
-        let next = control::give_back(back, k);
+        let next = bus::give_back(back, k);
         self.control = next;
         Strode {
             state: self,
