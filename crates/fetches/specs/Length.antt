@@ -19,7 +19,7 @@ use Rattle.channel.specs.declared.Channel.{Channel}
 use Rattle.chain.specs.declared.Loaded.{Loaded}
 use Rattle.chain.specs.Chaining.{fetchedOf}
 use Rattle.chain.specs.Length.{Follows, fetch-follows}
-use Rattle.fetches.specs.Fetches.{goesOn, stageAfter, fetchTurns, fetchesOf}
+use Rattle.fetches.specs.Fetches.{goesOn, stageAfter, fetchesOf}
 
 -- the word of a chain that is fetched next
 abbrev pub wordAt : List ℕ → Channel → ℕ

@@ -1,6 +1,6 @@
 -- Document 01, "Registers": what is read at the pointer. Assumes nothing.
 use Prim.Native.Nat.{ℕ}
-use mathlib.Core.Bool.{Bool, true, false, not, _&&_}
+use mathlib.Core.Bool.{Bool, false, not, _&&_}
 use Rattle.port.specs.declared.Which.{Which}
 use Rattle.port.specs.declared.Register.{Register}
 use Rattle.port.specs.declared.Register.the-variants.{CurrentAUpper, CurrentALower, CurrentBUpper, CurrentBLower, BaseAUpper, BaseALower, BaseBUpper, BaseBLower, CurrentCount, BaseCount, Pattern, Mask, Vector, ModeLow, ChainUpper, ChainLower}
