@@ -6,7 +6,6 @@ use Rattle.reasons.specs.declared.Reasons.{Reasons}
 use Rattle.mode.specs.Mode.{interruptOf, chainOf}
 use Rattle.reasons.specs.Reasons.{enabledFor}
 use Rattle.channel.specs.declared.Channel.{Channel}
-use Rattle.channel.specs.declared.Ended.{Ended}
 use Rattle.channel.specs.Ending.{withIp, interruptedBy, interrupted, flagged, finished, waited, endOf}
 
 pub first-interrupt : (which : Which) (why : Reasons) (c r : Channel) (t : Reasons) (e : Bool)

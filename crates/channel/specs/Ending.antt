@@ -1,10 +1,7 @@
 -- Document 01, "Ending", and what an unended unit leaves. Assumes nothing.
-use Prim.Native.Nat.{ℕ}
 use mathlib.Core.Bool.{Bool, true, false, cond, _||_}
 use Rattle.port.specs.declared.Which.{Which}
 use Rattle.port.specs.declared.Which.the-variants.{One, Two}
-use Rattle.comparing.specs.declared.Compared.{Compared}
-use Rattle.mode.specs.declared.Mode.{Mode}
 use Rattle.reasons.specs.declared.Reasons.{Reasons}
 use Rattle.mode.specs.declared.RequestMode.{RequestMode}
 use Rattle.mode.specs.declared.RequestMode.the-variants.{Single, DemandHold, DemandRelease, DemandInterleave}
@@ -13,7 +10,6 @@ use Rattle.reasons.specs.Reasons.{some, enabledFor}
 use Rattle.status.specs.declared.Flags.{Flags}
 use Rattle.status.specs.Status.{saveWord}
 use Rattle.channel.specs.declared.Channel.{Channel}
-use Rattle.request.specs.declared.Line.{Line}
 use Rattle.unit.specs.declared.Moved.{Moved}
 use Rattle.channel.specs.declared.Ended.{Ended}
 use Rattle.channel.specs.Set.{_⟨current≔_⟩, _⟨mode≔_⟩, _⟨interrupt≔_⟩, _⟨status≔_⟩, _⟨line≔_⟩, _⟨ip≔_⟩, _⟨sip≔_⟩, _⟨save≔_⟩, _⟨nac≔_⟩, _⟨mch≔_⟩, _⟨mcl≔_⟩, _⟨why≔_⟩, _⟨change≔_⟩}

@@ -1,12 +1,12 @@
 -- Document 01, "Which step comes next": what the rules ask of a channel's own registers. Assumes nothing.
 use mathlib.Core.Bool.{Bool, not, _&&_}
 use Rattle.port.specs.declared.Which.{Which}
-use Rattle.mode.specs.Mode.{requestModeOf}
+use Rattle.mode.specs.Mode.{requestModeOf, isInterleave}
 use Rattle.channel.specs.declared.Channel.{Channel}
 use Rattle.channel.specs.Candidate.{isCandidate}
 use Rattle.request.specs.Request.{requests}
 use Rattle.rules.specs.declared.Choice.{Choice}
-use Rattle.rules.specs.Rules.{keeping, isInterleave}
+use Rattle.rules.specs.Rules.{keeping}
 
 -- rule 4, by the keeper's registers
 unfoldable pub keeper : Which → Channel → Choice

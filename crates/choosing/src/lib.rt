@@ -2,7 +2,8 @@
 ghost use mathlib.Core.Path.{_≡_};
 ghost use mathlib.Core.Bool.{true};
 ghost use Rattle.facts.specs.First.{firstOf};
-ghost use Rattle.rules.specs.Rules.{isEnabled, isInterleaved, isInterleave, turnBy, beginning, fetchRefusals, refusedOr};
+ghost use Rattle.rules.specs.Rules.{isEnabled, isInterleaved, turnBy, beginning, fetchRefusals, refusedOr};
+ghost use Rattle.mode.specs.Mode.{isInterleave};
 ghost use Rattle.choosing.specs.Channels.{keeper, interleaves, isInTurn};
 use channel::Channel;
 use control::Served;

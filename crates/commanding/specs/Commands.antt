@@ -60,8 +60,7 @@ isReset Unknown = false
 
 abbrev pub commandedBy : Bool → Bool → Command → Which → Controller → Written
 commandedBy true busy x w u = carriedOut x w u
-commandedBy false true x w u = refuses 2 u
-commandedBy false false x w u = carriedOut x w u
+commandedBy false busy x w u = unlessBusy busy u (carriedOut x w u)
 
 unfoldable pub commanded : Command → Which → Controller → Written
 commanded x w u = commandedBy (isReset x) (isBusy u) x w u

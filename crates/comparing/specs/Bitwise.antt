@@ -32,24 +32,24 @@ differ-lt (suc x) (suc y) hx hy = differ-lt x y (omega arith) (omega arith)
 low-xor : (a b : ℕ) → bitXor a b % 2 ≡ differ (a % 2) (b % 2)
 low-xor a b = omega (arith, xor-step a b, differ-lt (a % 2) (b % 2) (omega arith) (omega arith))
 
-pub bit-and : (k a b : ℕ) → bit k (bitAnd a b) ≡ min (bit k a) (bit k b)
+bit-and : (k a b : ℕ) → bit k (bitAnd a b) ≡ min (bit k a) (bit k b)
 bit-and k a b = rw and-shr (low-and (a / 2 ^ k) (b / 2 ^ k))
 
-pub bit-xor : (k a b : ℕ) → bit k (bitXor a b) ≡ differ (bit k a) (bit k b)
+bit-xor : (k a b : ℕ) → bit k (bitXor a b) ≡ differ (bit k a) (bit k b)
 bit-xor k a b = rw xor-shr (low-xor (a / 2 ^ k) (b / 2 ^ k))
 
-pub bit-suc : (k n : ℕ) → bit (suc k) n ≡ bit k (n / 2)
+bit-suc : (k n : ℕ) → bit (suc k) n ≡ bit k (n / 2)
 bit-suc k n = rw (shr-shr n 1 k, one-add k)
 
 -- the complement has the other digit at each place
-pub bit-not : (w k m : ℕ) → k < w → m < 2 ^ w → bit k (2 ^ w - 1 - m) ≡ 1 - bit k m
+bit-not : (w k m : ℕ) → k < w → m < 2 ^ w → bit k (2 ^ w - 1 - m) ≡ 1 - bit k m
 bit-not zero k m h g = absurd (not-suc-le-zero h)
 bit-not (suc w) zero m h g = omega arith
 bit-not (suc w) (suc k) m h g =
     let half : (2 ^ suc w - 1 - m) / 2 ≡ 2 ^ w - 1 - m / 2 = omega arith in
     rw (bit-suc k (2 ^ suc w - 1 - m), bit-suc k m, half) (bit-not w k (m / 2) (omega arith) (omega arith))
 
-pub bits-zero : (w n : ℕ) → n < 2 ^ w → ((k : ℕ) → k < w → bit k n ≡ 0) → n ≡ 0
+bits-zero : (w n : ℕ) → n < 2 ^ w → ((k : ℕ) → k < w → bit k n ≡ 0) → n ≡ 0
 bits-zero zero n h f = omega arith
 bits-zero (suc w) n h f =
     omega (arith, f 0 (omega arith), bits-zero w (n / 2) (omega arith) (λ k g. sym (bit-suc k n) ∙ f (suc k) (suc-le-suc g)))

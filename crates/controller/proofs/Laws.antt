@@ -14,7 +14,7 @@ use Rattle.channel.specs.Candidate.{isCandidate}
 use Rattle.request.specs.Request.{requests}
 use Rattle.channel.specs.Ending.{reasonsOf, movedBy, unended, afterBy, afterUnit}
 use Rattle.reload.specs.declared.Stage.{Stage}
-use Rattle.chain.specs.declared.Loaded.{Loaded}
+use Rattle.reload.specs.declared.Next.{Next}
 use Rattle.control.specs.declared.Chain.{Chain}
 use Rattle.control.specs.declared.Chain.the-variants.{NoChain, Of}
 use Rattle.control.specs.declared.Bus.{Bus}
@@ -33,7 +33,7 @@ use Rattle.controller.specs.declared.Answer.the-variants as answer
 use Rattle.controller.specs.Set.{_⟨control≔_⟩}
 use Rattle.controller.specs.Controller.{at, with}
 use Rattle.controller.specs.Choice.{turn, factsOf}
-use Rattle.controller.specs.Fetching.{fetchedBy}
+use Rattle.controller.specs.Fetching.{loadedAs, fetchedBy}
 use Rattle.controller.specs.Step.{outcome, says, workOf, goneOn, endedAfter, unitOf, performOf}
 
 -- ---- a candidate
@@ -82,10 +82,9 @@ module _ (u : Controller) where
 
 -- ---- what a step does
 
-pub fetched : (w : Which) (u s : Controller) (l : Loaded) (active cpu : Bool) (k : Control) → active ≡ requests (l .channel .mode) (l .channel .line)
-    → cpu ≡ isInterleaved (u .master) → k ≡ controlFetched (l .next) cpu active w (u .control) → s ≡ with w (l .channel) (u ⟨control≔ k ⟩) → s ≡ fetchedBy w l u .state
-fetched w u s l active cpu k ea ei ek es =
-    es ∙ (λ i. with w (l .channel) (u ⟨control≔ (ek ∙ (λ j. controlFetched (l .next) (ei j) (ea j) w (u .control))) i ⟩))
+pub fetched : (w : Which) (u s : Controller) (d : Channel) (next : Next) (active cpu : Bool) (k : Control) → active ≡ requests (d .mode) (d .line)
+    → cpu ≡ isInterleaved (u .master) → k ≡ controlFetched next cpu active w (u .control) → s ≡ with w d (u ⟨control≔ k ⟩) → s ≡ fetchedBy w (loadedAs d next) u .state
+fetched w u s d next active cpu k ea ei ek es = es ∙ (λ i. with w d (u ⟨control≔ (ek ∙ (λ j. controlFetched next (ei j) (ea j) w (u .control))) i ⟩))
 
 pub gone-on : (w v : Which) (u : Controller) (m : Moved) (c : Channel) (k : Control) (r : RequestMode) (cpu : Bool) → w ≡ v → r ≡ requestModeOf (at w u .mode)
     → cpu ≡ isInterleaved (u .master) → k ≡ unendedControl r cpu w (u .control) → c ≡ unended (movedBy m (at v u)) → with v c (u ⟨control≔ k ⟩) ≡ goneOn w u m

@@ -8,6 +8,7 @@ use Rattle.space.specs.Space.{valueIn}
 use Rattle.address.specs.Address.{number}
 use Rattle.reload.specs.declared.Stage.{Stage}
 use Rattle.reload.specs.declared.Next.{Next}
+use Rattle.channel.specs.declared.Channel.{Channel}
 use Rattle.chain.specs.declared.Loaded.{Loaded}
 use Rattle.chain.specs.Chaining.{fetchedOf, droppedOf}
 use Rattle.request.specs.Request.{requests}
@@ -22,6 +23,9 @@ use Rattle.control.specs.Set.{_⟨chain≔_⟩}
 use Rattle.control.specs.After.{controlFetched, droppedControl}
 use Rattle.controller.specs.Controller.{at, with}
 use Rattle.rules.specs.Rules.{isInterleaved}
+
+abbrev pub loadedAs : Channel → Next → Loaded
+loadedAs c next = record { channel = c; next = next }
 
 abbrev pub fetchedBy : Which → Loaded → Controller → Stepped
 fetchedBy w l u = record {

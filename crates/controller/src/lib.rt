@@ -8,14 +8,12 @@ ghost use Rattle.choosing.specs.Channels.{keeper};
 ghost use Rattle.mode.specs.Mode.{requestModeOf};
 ghost use Rattle.address.specs.Address.{isOdd};
 ghost use Rattle.unit.specs.Unit.{unitRefusal};
-ghost use Rattle.chain.specs.Chaining.{fetchedOf};
 ghost use Rattle.controller.specs.Set.{_⟨control≔_⟩};
 ghost use Rattle.controller.specs.Controller.{at, with};
 ghost use Rattle.controller.specs.Choice.{turn, factsOf, faultsOf, choice};
-ghost use Rattle.controller.specs.Fetching.{fetchedBy, dropOf, fetchOf};
+ghost use Rattle.controller.specs.Fetching.{loadedAs, fetchedBy, dropOf, fetchOf};
 ghost use Rattle.controller.specs.Step.{outcome, workOf, goneOn, endedAfter, unitOf, holdOf, backOf, performOf, stepOf};
 use board::Board;
-use chain::Loaded;
 use channel::Channel;
 use comparing::Compared;
 use control::Back;
@@ -25,6 +23,7 @@ use control::Control;
 use mode::RequestMode;
 use port::Which;
 use reasons::Reasons;
+use reload::Next;
 use reload::Stage;
 use rules::Choice;
 use rules::Turn;
@@ -254,14 +253,12 @@ impl Controller {
     }
 
     // The controller after a word of a chain.
-    pub fn settle_fetch(self, w: Which, l: Loaded) -> Controller
-        ensures { λ r. ⌜ r ≡ fetchedBy w l self .state ⌝ }
+    pub fn settle_fetch(self, w: Which, d: Channel, next: Next) -> Controller
+        ensures { λ r. ⌜ r ≡ fetchedBy w (loadedAs d next) self .state ⌝ }
     {
-        let d = l.channel;
-        let next = l.next;
         let k = self.control;
         let active = request::is_requesting(d.mode, d.line);
-        let after = control::control_fetched(
+        let after = bus::control_fetched(
             next,
             choosing::is_interleaved(self.master),
             active,
@@ -283,8 +280,11 @@ impl Controller {
         }
         let c = self.channel(w);
         let word = space::read_memory(memory, MemoryAddress(c.chain.number()), Width::Word);
+        let l = chain::fetch(stage, word, c);
+        let d = l.channel;
+        let next = l.next;
         Stepped {
-            state: self.settle_fetch(w, chain::fetch(stage, word, c)),
+            state: self.settle_fetch(w, d, next),
             answer: Answer::Fetched(w, FetchAnswer {}),
         }
     }
@@ -306,7 +306,7 @@ impl Controller {
     {
         let k = self.control;
         let cpu = choosing::is_interleaved(self.master);
-        let next = control::unended_control(self.request_mode(w), cpu, w, k);
+        let next = bus::unended_control(self.request_mode(w), cpu, w, k);
         self.control = next;
         match w {
             Which::One => {
@@ -329,7 +329,7 @@ impl Controller {
         let k = self.control;
         let e = self.channel(w).end_after(w, why, m);
         let d = e.channel;
-        let next = control::ended_control(e.chains, w, k);
+        let next = bus::ended_control(e.chains, w, k);
         self.with_both(w, d, next)
     }
 
@@ -379,7 +379,7 @@ impl Controller {
         );
         let d = e.channel;
         let k = self.control;
-        self.with_both(w, d, control::held_control(e.chains, w, k))
+        self.with_both(w, d, bus::held_control(e.chains, w, k))
     }
 
     fn hold(self, w: Which, eop: bool) -> Stepped
@@ -402,7 +402,7 @@ impl Controller {
         ensures { λ r. ⌜ r ≡ backOf back self .state ⌝ }
     {
         let k = self.control;
-        let next = control::give_back(back, k);
+        let next = bus::give_back(back, k);
         self.control = next;
         self
     }

@@ -1,1 +1,2 @@
 pub mod Fetches
+pub mod Length

@@ -1,6 +1,6 @@
 -- Document 01, "Registers": the mode, bits 20-16 in its high word and 15-0 in its low word. Assumes nothing.
 use Prim.Native.Nat.{ℕ, _+_, _*_, _/_, _%_}
-use mathlib.Core.Bool.{Bool}
+use mathlib.Core.Bool.{Bool, true, false}
 use mathlib.Core.List.{List, [], _∷_}
 use Rattle.facts.specs.Bits.{bitAt, bitIf}
 use Rattle.facts.specs.Look.{look}
@@ -35,6 +35,12 @@ requestModes = (0, Single) ∷ (1, DemandHold) ∷ (2, DemandRelease) ∷ []
 
 unfoldable pub requestModeOf : Mode → RequestMode
 requestModeOf m = look DemandInterleave (m .low / 32 % 4) requestModes
+
+abbrev pub isInterleave : RequestMode → Bool
+isInterleave Single = false
+isInterleave DemandHold = false
+isInterleave DemandRelease = false
+isInterleave DemandInterleave = true
 
 -- 9-7 interrupt, 12-10 reload, 15-13 chain
 abbrev pub interruptOf : Mode → Reasons

@@ -1,6 +1,5 @@
 -- Each answer as one number, for a host: bits 7-0 are document 01's refusal number, or 0. Assumes nothing.
 use Prim.Native.Nat.{ℕ, _+_, _*_}
-use mathlib.Core.Bool.{Bool}
 use Rattle.port.specs.declared.Which.{Which}
 use Rattle.port.specs.declared.Which.the-variants.{One, Two}
 use Rattle.reasons.specs.declared.Reasons.{Reasons}

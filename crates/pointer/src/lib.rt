@@ -9,10 +9,11 @@ pub fn read_pointer(u: Controller) -> u16
     u.pointer
 }
 
-pub fn write_pointer(mut u: Controller, w: u16) -> Controller
+pub fn write_pointer(u: Controller, w: u16) -> Controller
     ensures { λ r. ⌜ r ≡ pointed w u ⌝ }
 {
     let kept = port::kept_pointer(w);
-    u.pointer = kept;
-    u
+    let mut next = u;
+    next.pointer = kept;
+    next
 }

@@ -5,20 +5,17 @@ use mathlib.Core.List.{List, [], _∷_}
 use Rattle.port.specs.declared.Which.{Which}
 use Rattle.port.specs.declared.Which.the-variants.{One, Two}
 use Rattle.port.specs.declared.Register.{Register}
-use Rattle.port.specs.declared.Register.the-variants.{CommandStatus, CurrentAUpper, CurrentALower, CurrentBUpper, CurrentBLower, BaseAUpper, BaseALower, BaseBUpper, BaseBLower, CurrentCount, BaseCount, Pattern, Mask, Vector, ModeLow, ChainUpper, ChainLower}
-use Rattle.port.specs.declared.Port.{Port}
-use Rattle.port.specs.declared.Port.the-variants.{Of}
+use Rattle.port.specs.declared.Register.the-variants.{CurrentAUpper, CurrentALower, CurrentBUpper, CurrentBLower, BaseAUpper, BaseALower, BaseBUpper, BaseBLower, CurrentCount, BaseCount, Pattern, Mask, Vector, ModeLow, ChainUpper, ChainLower}
 
 -- The pointer keeps bits 1 to 6 of the word written; the rest read 0.
 abbrev pub keptPointer : ℕ → ℕ
 keptPointer w = w / 2 % 64 * 2
 
--- Command (write) and status (read); current A, current B, base A and base B, each upper and lower; current and base count;
--- pattern; mask; vector; mode low; chain upper and lower.
+-- Current A, current B, base A and base B, each upper and lower; current and base count; pattern; mask; vector; mode low; chain upper and
+-- lower: the registers that are read and written.
 abbrev pub registers : List (ℕ × ℕ × Register)
 registers =
-    (0x2E, 0x2C, CommandStatus)
-    ∷ (0x1A, 0x18, CurrentAUpper)
+    (0x1A, 0x18, CurrentAUpper)
     ∷ (0x0A, 0x08, CurrentALower)
     ∷ (0x12, 0x10, CurrentBUpper)
     ∷ (0x02, 0x00, CurrentBLower)
@@ -36,10 +33,10 @@ registers =
     ∷ (0x22, 0x20, ChainLower)
     ∷ []
 
--- Each register at its two ports, before the further ones.
-abbrev pub both : List (ℕ × ℕ × Register) → List (ℕ × Port) → List (ℕ × Port)
-both [] more = more
-both (r ∷ rs) more = (r .0, Of One (r .2)) ∷ (r .1, Of Two (r .2)) ∷ both rs more
+-- What stands at the two ports of each of them, reading or writing.
+abbrev pub both : {P : Type 0} → (Which → Register → P) → List (ℕ × ℕ × Register) → List (ℕ × P)
+both of [] = []
+both of (r ∷ rs) = (r .0, of One (r .2)) ∷ (r .1, of Two (r .2)) ∷ both of rs
 
 -- whether the second is the other channel
 abbrev pub isOther : Which → Which → Bool

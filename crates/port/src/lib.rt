@@ -8,9 +8,8 @@ pub enum Which {
     Two,
 }
 
-// A register of a channel. What is written at the status is a command.
+// A register of a channel that is read and written.
 pub enum Register {
-    CommandStatus,
     CurrentAUpper,
     CurrentALower,
     CurrentBUpper,
@@ -23,18 +22,10 @@ pub enum Register {
     BaseCount,
     Pattern,
     Mask,
-    Save,
     Vector,
-    ModeHigh,
     ModeLow,
     ChainUpper,
     ChainLower,
-}
-
-pub enum Port {
-    MasterMode,
-    Of(Which, Register),
-    Nowhere,
 }
 
 // The pointer keeps bits 1 to 6.

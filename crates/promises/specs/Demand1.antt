@@ -10,9 +10,10 @@ use Rattle.facts.specs.Look.{look}
 use Rattle.space.specs.Space.{Spaces}
 use Rattle.port.specs.declared.Which.{Which}
 use Rattle.port.specs.declared.Which.the-variants.{One, Two}
-use Rattle.port.specs.declared.Register.{Register}
-use Rattle.port.specs.declared.Port.{Port}
-use Rattle.port.specs.declared.Port.the-variants.{MasterMode, Of, Nowhere}
+use Rattle.readable.specs.declared.ReadPort.{ReadPort}
+use Rattle.readable.specs.declared.ReadPort.the-variants as reads
+use Rattle.writable.specs.declared.WritePort.{WritePort}
+use Rattle.writable.specs.declared.WritePort.the-variants as writes
 use Rattle.readable.specs.Readable.{readPort}
 use Rattle.writable.specs.Writable.{writePort}
 use Rattle.command.specs.declared.Command.{Command}
@@ -44,8 +45,8 @@ use Rattle.commanding.specs.declared.Written.{Written}
 use Rattle.reading.specs.Reading.{readBy, readOf}
 use Rattle.port.specs.Ports.{isOther}
 use Rattle.effects.specs.Effects.{cannotChain}
-use Rattle.commanding.specs.Commands.{refuses, takes, isBusy, carriedOut, isReset, commandedBy, commanded}
-use Rattle.writing.specs.Writing.{isCommand, storedBy, masterBy, writeBy, writeOf}
+use Rattle.commanding.specs.Commands.{refuses, takes, unlessBusy, isBusy, carriedOut, isReset, commandedBy, commanded}
+use Rattle.writing.specs.Writing.{writeBy, writeOf}
 use Rattle.reading.specs.Answers.{PaperRead, paperRead}
 use Rattle.commanding.specs.Answers.{paperWrite}
 use Rattle.udc.specs.declared.Lined.{Lined}
@@ -57,42 +58,45 @@ use Rattle.acknowledging.specs.Answers.{PaperAck, paperAck}
 
 -- ---- register read
 
-abbrev pub isNowhere : Port → Bool
-isNowhere MasterMode = false
-isNowhere (Of w r) = false
-isNowhere Nowhere = true
+abbrev pub noRead : ReadPort → Bool
+noRead reads.MasterMode = false
+noRead (reads.Status w) = false
+noRead (reads.Save w) = false
+noRead (reads.ModeHigh w) = false
+noRead (reads.Of w r) = false
+noRead reads.Nowhere = true
 
 pub record Read (u : Controller) : Type 0 where
   -- 1: no register at the pointer for this direction
-  pub refusals : Exactly (paperRead (readOf u) .number) ((isNowhere (readPort (u .pointer)), 1) ∷ [])
+  pub refusals : Exactly (paperRead (readOf u) .number) ((noRead (readPort (u .pointer)), 1) ∷ [])
   -- a refused read gives 0
   pub nothing : paperRead (readOf u) .number ≢ 0 → paperRead (readOf u) .word ≡ 0
 
-read-number : (p : Port) (u : Controller) → paperRead (readBy p u) .number ≡ firstOf ((isNowhere p, 1) ∷ [])
-read-number MasterMode u = refl
-read-number (Of w r) u = refl
-read-number Nowhere u = refl
-
-read-zero : (p : Port) (u : Controller) → paperRead (readBy p u) .number ≢ 0 → paperRead (readBy p u) .word ≡ 0
-read-zero MasterMode u h = absurd (h refl)
-read-zero (Of w r) u h = absurd (h refl)
-read-zero Nowhere u h = refl
+read-looks : (p : ReadPort) (u : Controller)
+    → (paperRead (readBy p u) .number ≡ firstOf ((noRead p, 1) ∷ [])) × (paperRead (readBy p u) .number ≢ 0 → paperRead (readBy p u) .word ≡ 0)
+read-looks reads.MasterMode u = (refl, λ h. absurd (h refl))
+read-looks (reads.Status w) u = (refl, λ h. absurd (h refl))
+read-looks (reads.Save w) u = (refl, λ h. absurd (h refl))
+read-looks (reads.ModeHigh w) u = (refl, λ h. absurd (h refl))
+read-looks (reads.Of w r) u = (refl, λ h. absurd (h refl))
+read-looks reads.Nowhere u = (refl, λ h. refl)
 
 pub read : (u : Controller) → Read u
 unfolding readOf
 read u = record {
-  refusals = exactly (paperRead (readBy (readPort (u .pointer)) u) .number) ((isNowhere (readPort (u .pointer)), 1) ∷ []) (read-number (readPort (u .pointer)) u);
-  nothing = read-zero (readPort (u .pointer)) u;
+  refusals = exactly (paperRead (readBy (readPort (u .pointer)) u) .number) ((noRead (readPort (u .pointer)), 1) ∷ []) (read-looks (readPort (u .pointer)) u .0);
+  nothing = read-looks (readPort (u .pointer)) u .1;
 }
 
 -- ---- register write
 
--- the write is Reset; its command is of kind 6 or 7; it names IP at the other channel's port; it is Start Chain with CA or SIP set
-abbrev pub resetWritten : Port → ℕ → Bool
-resetWritten MasterMode w = false
-resetWritten (Of k r) w = isCommand r && isReset (commandOf w)
-resetWritten Nowhere w = false
+abbrev pub noWrite : WritePort → Bool
+noWrite writes.MasterMode = false
+noWrite (writes.Command k) = false
+noWrite (writes.Of k r) = false
+noWrite writes.Nowhere = true
 
+-- a command is of kind 6 or 7; it names IP at the other channel's port; it is Start Chain with CA or SIP set
 abbrev pub isUnknown : Command → Bool
 isUnknown Reset = false
 isUnknown (Interrupts k set e p) = false
@@ -121,15 +125,16 @@ cannotStart (StartChain k) u = cannotChain (at k u)
 cannotStart Unknown u = false
 
 -- a condition of the command that is written, false where none is
-abbrev pub ofCommand : (Command → Which → Bool) → Port → ℕ → Bool
-ofCommand f MasterMode w = false
-ofCommand f (Of k r) w = isCommand r && f (commandOf w) k
-ofCommand f Nowhere w = false
+abbrev pub ofCommand : (Command → Which → Bool) → WritePort → ℕ → Bool
+ofCommand f writes.MasterMode w = false
+ofCommand f (writes.Command k) w = f (commandOf w) k
+ofCommand f (writes.Of k r) w = false
+ofCommand f writes.Nowhere w = false
 
-abbrev pub writeTable : Port → Bool → ℕ → Controller → List (Bool × ℕ)
+abbrev pub writeTable : WritePort → Bool → ℕ → Controller → List (Bool × ℕ)
 writeTable p busy w u =
-    (isNowhere p, 1)
-    ∷ (busy && not (resetWritten p w), 2)
+    (noWrite p, 1)
+    ∷ (busy && not (ofCommand (λ x k. isReset x) p w), 2)
     ∷ (ofCommand (λ x k. isUnknown x) p w, 3)
     ∷ (ofCommand namesOther p w, 4)
     ∷ (ofCommand (λ x k. cannotStart x u) p w, 5)
@@ -175,27 +180,17 @@ commanded-looks true false x k u = carried-looks x k u
 commanded-looks false true x k u = refused-looks 2 u
 commanded-looks false false x k u = carried-looks x k u
 
--- a register's write, command or not
-plain-looks : (busy : Bool) (k : Which) (r : Register) (w : ℕ) (u : Controller) → Looked (storedBy false busy k r w u) (cond (busy && true) 2 0) u
-plain-looks true k r w u = refused-looks 2 u
-plain-looks false k r w u = taken-looks _ u
+-- a register's write that is no command
+plain-looks : (busy : Bool) (v u : Controller) → Looked (unlessBusy busy u (takes v)) (cond (busy && true) 2 0) u
+plain-looks true v u = refused-looks 2 u
+plain-looks false v u = taken-looks v u
 
-stored-looks : (command : Bool) (k : Which) (r : Register) (w : ℕ) (u : Controller)
-    → Looked (storedBy command (isBusy u) k r w u)
-    (cond (isBusy u && not (command && isReset (commandOf w))) 2 (cond (command && isUnknown (commandOf w)) 3
-    (cond (command && namesOther (commandOf w) k) 4 (cond (command && cannotStart (commandOf w) u) 5 0)))) u
+write-looks : (p : WritePort) (w : ℕ) (u : Controller) → Looked (writeBy p w u) (firstOf (writeTable p (isBusy u) w u)) u
 unfolding commanded afterBusy
-stored-looks true k r w u = commanded-looks (isReset (commandOf w)) (isBusy u) (commandOf w) k u
-stored-looks false k r w u = plain-looks (isBusy u) k r w u
-
-master-looks : (busy : Bool) (w : ℕ) (u : Controller) → Looked (masterBy busy w u) (cond (busy && true) 2 0) u
-master-looks true w u = refused-looks 2 u
-master-looks false w u = taken-looks _ u
-
-write-looks : (p : Port) (w : ℕ) (u : Controller) → Looked (writeBy p w u) (firstOf (writeTable p (isBusy u) w u)) u
-write-looks MasterMode w u = master-looks (isBusy u) w u
-write-looks (Of k r) w u = stored-looks (isCommand r) k r w u
-write-looks Nowhere w u = refused-looks 1 u
+write-looks writes.MasterMode w u = plain-looks (isBusy u) _ u
+write-looks (writes.Command k) w u = commanded-looks (isReset (commandOf w)) (isBusy u) (commandOf w) k u
+write-looks (writes.Of k r) w u = plain-looks (isBusy u) _ u
+write-looks writes.Nowhere w u = refused-looks 1 u
 
 pub write : (w : ℕ) (u : Controller) → Write w u
 unfolding writeOf

@@ -1,7 +1,7 @@
 -- Demand 2, the search: it ends on the first datum that meets its condition, or at the count. In any stretch of steps, for either
 -- channel, all request modes, both widths, all step codes and both spaces, with the other channel active. Assumes nothing.
 use mathlib.Core.Path.{_≡_, refl, sym, ap, _∙_, subst}
-use mathlib.Core.Bool.{Bool, true, false, not, _||_, true≢false}
+use mathlib.Core.Bool.{Bool, true, false, _||_, true≢false}
 use mathlib.Core.List.{List, []}
 use Prim.Native.Nat.{ℕ, zero, suc, _-_, _%_, _≤_, _<_}
 use native.Mathlib.Omega.{arith}
@@ -12,16 +12,14 @@ use Rattle.space.specs.Space.{Spaces, get}
 use Rattle.board.specs.Board.{boardOf}
 use Rattle.laws.specs.Local.{Agree, Prog, gets, bytesAt}
 use Rattle.laws.specs.Machine.{iter, Every, every-map, every-init}
-use Rattle.laws.specs.Op.{Ends, ended, Seen, bump, after, done, Unended, seen-data, Steady, Area, Reads-at}
-use Rattle.laws.specs.Search.{First, outcome, Looks, Looking, Found, meets, search-ends}
+use Rattle.laws.specs.Op.{Ends, ended, Seen, bump, after, done, Unended, seen-data, Area, Reads-at}
+use Rattle.laws.specs.Search.{First, outcome, Looking, Found, meets, search-ends}
 use Rattle.counting.specs.Count.{fewer, terminal}
 use Rattle.counting.specs.CountLaws.{fewer-left, last-terminal}
 use Rattle.comparing.specs.Comparison.{comparison}
 use Rattle.address.specs.declared.Address.{Address}
 use Rattle.address.specs.declared.Set.{Set}
 use Rattle.address.specs.Address.{placeOf, steppedOn, sourceOf}
-use Rattle.mode.specs.declared.Mode.{Mode}
-use Rattle.reasons.specs.declared.Reasons.{Reasons}
 use Rattle.mode.specs.declared.RequestMode.{RequestMode}
 use Rattle.mode.specs.declared.RequestMode.the-variants.{Single, DemandHold, DemandRelease, DemandInterleave}
 use Rattle.operation.specs.declared.Operation.{Operation}

@@ -13,14 +13,14 @@ use Rattle.space.specs.declared.Place.{Place}
 use Rattle.space.specs.Space.{Spaces, get, placeAt}
 use Rattle.board.specs.Board.{boardOf}
 use Rattle.space.specs.Laws.{SameSize, size-refl, Bytes, after}
-use Rattle.laws.specs.Local.{Agree, Write, gets, puts, size-puts, writing}
+use Rattle.laws.specs.Local.{Write, gets, puts, size-puts, writing}
 use Rattle.laws.specs.Machine.{iter, Every, every-map}
-use Rattle.laws.specs.Op.{Ends, ended, bump, done, Unended, Steady, Area, Reads-at}
+use Rattle.laws.specs.Op.{ended, bump, done, Unended, Steady}
 use Rattle.laws.specs.Op as op
-use Rattle.laws.specs.Block.{To, Both, Laid, Carrying, Writes-at, Arrived, block-arrives}
+use Rattle.laws.specs.Block.{Both, Laid, Carrying, Arrived, block-arrives}
 use Rattle.laws.specs.Funnel.{to-bytes, to-word, round-trip}
 use Rattle.laws.specs.Pace.{pace}
-use Rattle.laws.specs.Area.{Line, byte, high, low, word-reads, byte-reads, byte-writes, word-writes, Apart-inside, laid-bytes, laid-words, apart-size, bytes-kept}
+use Rattle.laws.specs.Area.{byte, high, low, word-reads, byte-reads, byte-writes, word-writes, Apart-inside, laid-bytes, laid-words, apart-size, bytes-kept}
 use Rattle.counting.specs.Count.{fewer, terminal}
 use Rattle.counting.specs.CountLaws.{fewer-left, last-terminal}
 use Rattle.funnel.specs.Funnel.{highFirst}
@@ -43,7 +43,7 @@ use Rattle.rules.specs.Rules.{isInterleaved}
 use Rattle.controller.specs.Step.{workOf, performOf}
 use Rattle.control.specs.After.{controlBy}
 use Rattle.port.specs.declared.Which.{Which}
-use Rattle.promises.specs.Machine.{Machine, step, next-choice, channel, unit, unit-reads, unit-writes, unit-spaces}
+use Rattle.promises.specs.Machine.{Machine, step, next-choice, channel, unit-reads, unit-writes, unit-spaces}
 use Rattle.promises.specs.Own.{owns, spares, unfetched, Left, by, rest-of, Away, others-keep}
 use Rattle.promises.specs.Demand2b.{Held, held, prog, seen, ends-of, made, step-by, unit-step, unit-left, control-left, control-after, unended-chain, Goes, goes-after, current-after, steps, after-grows}
 use Rattle.promises.specs.Paced.{line, stands, place-is}

@@ -15,7 +15,7 @@ use Rattle.port.specs.declared.Which.the-variants.{One, Two}
 use Rattle.mode.specs.declared.RequestMode.{RequestMode}
 use Rattle.mode.specs.declared.RequestMode.the-variants.{DemandInterleave}
 use Rattle.reasons.specs.declared.Reasons.{Reasons}
-use Rattle.mode.specs.Mode.{requestModeOf}
+use Rattle.mode.specs.Mode.{requestModeOf, isInterleave}
 use Rattle.reasons.specs.Reasons.{some}
 use Rattle.unit.specs.declared.Moved.{Moved}
 use Rattle.unit.specs.Unit.{worked}
@@ -48,7 +48,7 @@ use Rattle.rules.specs.View.Intends.{noted, begins-unit}
 use Rattle.rules.specs.View.Because.{as-intended}
 use Rattle.controller.specs.Choice.{turn, factsOf, faultsOf, choice}
 use Rattle.controller.specs.Laws.{chooses}
-use Rattle.rules.specs.Rules.{isEnabled, isInterleaved, turnBy, isInterleave}
+use Rattle.rules.specs.Rules.{isEnabled, isInterleaved, turnBy}
 use Rattle.controller.specs.Step.{Outcome, workOf, unitOf, performOf, stepOf}
 use Rattle.control.specs.After.{unendedControl, controlBy}
 use Rattle.promises.specs.Machine.{Machine, left, step, answer, next-choice, channel, unit, unit-channel, unit-spaces}

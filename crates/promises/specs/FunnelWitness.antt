@@ -4,14 +4,14 @@ use mathlib.Core.Bool.{Bool, true, false}
 use mathlib.Core.List.{List, [], _∷_}
 use Prim.Native.Nat.{ℕ, _+_, _*_, _/_, _%_, _≤_, _<_}
 use native.Mathlib.Omega.{arith}
-use lib.Dec.{T, ltb, ltb→lt}
+use lib.Dec.{ltb, ltb→lt}
 use lib.ListN.{getD}
 use Rattle.facts.specs.Below.{below}
 use Rattle.facts.specs.Look.{look}
 use Rattle.space.specs.declared.Width.the-variants.{Byte, Word}
-use Rattle.space.specs.Space.{Spaces, get}
+use Rattle.space.specs.Space.{get}
 use Rattle.space.specs.Laws.{SameSize, Bytes, bytes-of-lists, place-inj}
-use Rattle.laws.specs.Machine.{iter, Every}
+use Rattle.laws.specs.Machine.{iter}
 use Rattle.laws.specs.Area.{Apart-inside, high, low}
 use Rattle.laws.specs.Area as area
 use Rattle.address.specs.declared.Address.{Address}
@@ -38,7 +38,7 @@ use Rattle.port.specs.declared.Which.the-variants.{One}
 use Rattle.udc.specs.Reset.{noChannel}
 use Rattle.promises.specs.Machine.{Machine, step}
 use Rattle.promises.specs.Paced.{line}
-use Rattle.promises.specs.Demand2c.{Ran, Splits, Merges, demand2c}
+use Rattle.promises.specs.Demand2c.{Splits, Merges, demand2c}
 use Rattle.promises.specs.Witness.{working, one-not-two}
 
 -- words at 0, bytes at 8, words at 14, all in memory and up

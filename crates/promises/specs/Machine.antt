@@ -1,7 +1,7 @@
 -- A machine is a controller and the two lent spaces; a stretch of n is n steps without EOP. A unit, as the program of accesses that
 -- the laws speak of, is the unit that the step does. Assumes nothing.
 use mathlib.Core.Path.{_≡_, refl}
-use mathlib.Core.Bool.{Bool, false}
+use mathlib.Core.Bool.{false}
 use mathlib.Core.List.{List}
 use Prim.Native.Nat.{ℕ}
 use Rattle.space.specs.declared.Place.{Place}

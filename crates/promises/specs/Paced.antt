@@ -7,7 +7,6 @@ use Rattle.space.specs.declared.Width.{Width}
 use Rattle.space.specs.declared.Width.the-variants.{Byte, Word}
 use Rattle.space.specs.declared.Direction.{Direction}
 use Rattle.space.specs.declared.Direction.the-variants.{Up, Down, Hold}
-use Rattle.space.specs.declared.Place.{Place}
 use Rattle.space.specs.Space.{placeAt}
 use Rattle.stepping.specs.Stepping.{stride, moved}
 use Rattle.laws.specs.Pace.{pace, pace-start, pace-step}

@@ -1,8 +1,9 @@
 -- Document 01, "Points on both sides": the points that are proved, as a single table under one claim, of the rules themselves.
 -- Assumes nothing.
-use mathlib.Core.Path.{_≡_, refl, ap, _∙_}
-use mathlib.Core.Bool.{Bool, true, false}
-use Prim.Native.Nat.{ℕ}
+use mathlib.Core.Path.{_≡_, refl, ap, subst, _∙_}
+use mathlib.Core.Bool.{true, false}
+use mathlib.Core.List.{List}
+use Prim.Native.Nat.{ℕ, _+_, _-_}
 use Rattle.facts.specs.Look.{look}
 use Rattle.space.specs.declared.Width.the-variants.{Byte, Word}
 use Rattle.space.specs.declared.Direction.the-variants.{Up, Down}
@@ -12,20 +13,26 @@ use Rattle.comparing.specs.Comparison.{comparison}
 use Rattle.funnel.specs.Funnel.{highFirst, joined}
 use Rattle.address.specs.declared.Set.{Set}
 use Rattle.mode.specs.Mode.{operationOf}
+use Rattle.reload.specs.declared.Stage.the-variants.{Reload}
 use Rattle.reload.specs.Reload.{wordsOf}
 use Rattle.unit.specs.declared.Work.{Work}
-use Rattle.unit.specs.declared.Moved.{Moved}
 use Rattle.unit.specs.Unit.{compared, steppedSet, movedOf}
 use Rattle.command.specs.Command.{commandOf}
 use Rattle.port.specs.declared.Which.the-variants.{One}
 use Rattle.writable.specs.Writable.{writePort}
 use Rattle.channel.specs.declared.Channel.{Channel}
+use Rattle.fetches.specs.Fetches.{fetchesOf}
+use Rattle.fetches.specs.Length.{wordAt, Whole, chain-length}
 use Rattle.channel.specs.Set.{_⟨interrupt≔_⟩, _⟨cie≔_⟩}
 use Rattle.channel.specs.Ending.{withIp}
 use Rattle.controller.specs.declared.Controller.{Controller}
 use Rattle.controller.specs.Controller.{at, with}
 use Rattle.commanding.specs.Commands.{takes, isBusy, commandedBy, commanded}
 use Rattle.writing.specs.Writing.{writeBy, writeOf}
+
+-- a chain with the reload word r, where so many may be fetched, fetches n words and is complete
+abbrev pub TakesWords : ℕ → ℕ → Type 0
+TakesWords r n = (m : List ℕ) (c : Channel) (k : ℕ) → wordAt m c ≡ r → Whole n (fetchesOf m (n - 1 + k) 0 Reload c)
 
 -- the count and TC that a unit leaves of a count
 abbrev pub counted : ℕ → Work → Work
@@ -50,9 +57,9 @@ interrupting u = with One (withIp One (at One u ⟨interrupt≔ at One u .interr
 
 pub record Points : Type 0 where
   -- Reload 0282h takes 6 words; 03FFh 18; FC00h 1.
-  pub p1 : wordsOf 0x0282 ≡ 6
-  pub p2 : wordsOf 0x03FF ≡ 18
-  pub p3 : wordsOf 0xFC00 ≡ 1
+  pub p1 : TakesWords 0x0282 6
+  pub p2 : TakesWords 0x03FF 18
+  pub p3 : TakesWords 0xFC00 1
   -- Memory byte FFFFFFh up gives 000000h; memory word 000000h down gives FFFFFEh; I/O byte 000010h up gives 000012h.
   pub p4 : steppedBy Up Byte (memoryAt 0xFFFFFF) ≡ memoryAt 0
   pub p5 : steppedBy Down Word (memoryAt 0) ≡ memoryAt 0xFFFFFE
@@ -70,6 +77,9 @@ pub record Points : Type 0 where
       × (movedOf (sought (movedOf (sought five) 0x1300 .set)) 0x12AA .tc ≡ false)
   -- Command 36h at 2E sets CIE and IP of channel 1; 20h changes nothing.
   pub p12 : (u : Controller) → u .pointer ≡ 0x2E → isBusy u ≡ false → (writeOf 0x36 u ≡ takes (interrupting u)) × (writeOf 0x20 u ≡ takes u)
+
+words-taken : (r n : ℕ) → wordsOf r ≡ n → TakesWords r n
+words-taken r n e m c k q = subst (λ (x : ℕ). Whole x (fetchesOf m (x - 1 + k) 0 Reload c)) (ap wordsOf q ∙ e) (chain-length m c k)
 
 at-2E : (w : ℕ) (u : Controller) → u .pointer ≡ 0x2E → writeOf w u ≡ commanded (commandOf w) One u
 unfolding writeOf writePort look
@@ -93,9 +103,9 @@ set-none u e = obeyed 0x20 u e ∙ ap takes (same-one u)
 pub points : Points
 unfolding wordsOf movedOf steppedSet compared comparison operationOf look
 points = record {
-  p1 = refl;
-  p2 = refl;
-  p3 = refl;
+  p1 = words-taken 0x0282 6 refl;
+  p2 = words-taken 0x03FF 18 refl;
+  p3 = words-taken 0xFC00 1 refl;
   p4 = refl;
   p5 = refl;
   p6 = refl;

@@ -6,10 +6,9 @@ use native.Mathlib.Omega.{arith}
 use lib.Dec.{eqb}
 use Rattle.facts.specs.Look.{look}
 use Rattle.port.specs.declared.Which.{Which}
-use Rattle.port.specs.declared.Register.{Register}
 use Rattle.port.specs.declared.Which.the-variants.{One, Two}
-use Rattle.port.specs.declared.Port.{Port}
-use Rattle.port.specs.declared.Port.the-variants as port
+use Rattle.writable.specs.declared.WritePort.{WritePort}
+use Rattle.writable.specs.declared.WritePort.the-variants as port
 use Rattle.writable.specs.Writable.{writePort}
 use Rattle.command.specs.declared.Command.{Command}
 use Rattle.command.specs.declared.Command.the-variants.{Reset, Interrupts, SoftwareRequest, Flip, HardwareMask, StartChain, Unknown}
@@ -28,8 +27,8 @@ use Rattle.controller.specs.Controller.{at, with}
 use Rattle.controller.specs.Set.{_⟨control≔_⟩, _⟨master≔_⟩}
 use Rattle.rules.specs.Rules.{isEnabled}
 use Rattle.effects.specs.Effects.{cieBy, ipBy, chainStarted, cannotChain}
-use Rattle.commanding.specs.Commands.{refuses, takes, busyBy, isBusy, carriedOut, commandedBy, commanded}
-use Rattle.writing.specs.Writing.{registerWritten, isCommand, storedBy, masterBy, writeBy, writeOf}
+use Rattle.commanding.specs.Commands.{refuses, takes, unlessBusy, busyBy, isBusy, carriedOut, commandedBy, commanded}
+use Rattle.writing.specs.Writing.{writeBy, writeOf}
 use Rattle.pointer.specs.Pointer.{pointed}
 use Rattle.port.specs.Ports.{isOther}
 use Rattle.udc.specs.declared.LineAnswer.the-variants.{Refused}
@@ -196,18 +195,14 @@ module _ (u : Controller) (h : WellFormed u) where
   commanded-well (StartChain k) w = plain-well (isBusy u) (StartChain k) w refl
   commanded-well Unknown w = plain-well (isBusy u) Unknown w refl
 
-  stored-well : (command busy : Bool) (k : Which) (r : Register) (w : ℕ) → isBusy u ≡ busy → WellFormed (storedBy command busy k r w u .state)
-  stored-well true busy k r w i = commanded-well (commandOf w) k
-  stored-well false true k r w i = h
-  stored-well false false k r w i = stored u h i k (registerWritten r w (at k u)) (written-sound r w (at k u) (sound-at k u h))
+  unless-well : (busy : Bool) (v : Controller) → isBusy u ≡ busy → (isBusy u ≡ false → WellFormed v) → WellFormed (unlessBusy busy u (takes v) .state)
+  unless-well true v i f = h
+  unless-well false v i f = f i
 
-  master-well : (busy : Bool) (w : ℕ) → isBusy u ≡ busy → WellFormed (masterBy busy w u .state)
-  master-well true w i = h
-  master-well false w i = mastered u h i w
-
-  write-by : (p : Port) (w : ℕ) → WellFormed (writeBy p w u .state)
-  write-by port.MasterMode w = master-well (isBusy u) w refl
-  write-by (port.Of k r) w = stored-well (isCommand r) (isBusy u) k r w refl
+  write-by : (p : WritePort) (w : ℕ) → WellFormed (writeBy p w u .state)
+  write-by port.MasterMode w = unless-well (isBusy u) _ refl (λ i. mastered u h i w)
+  write-by (port.Command k) w = commanded-well (commandOf w) k
+  write-by (port.Of k r) w = unless-well (isBusy u) _ refl (λ i. stored u h i k _ (written-sound r w (at k u) (sound-at k u h)))
   write-by port.Nowhere w = h
 
   pub write-well : (w : ℕ) → WellFormed (writeOf w u .state)

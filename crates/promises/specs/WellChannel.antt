@@ -144,7 +144,6 @@ chain-written second w c h = let s = loaded-sound entry.ChainAddress second w c 
 
 pub written-sound : (r : Register) (w : ℕ) (c : Channel) → Sound c → Sound (registerWritten r w c)
 unfolding registerWritten
-written-sound register.CommandStatus w c h = h
 written-sound register.CurrentAUpper w c h = loaded-sound entry.CurrentA false w c h
 written-sound register.CurrentALower w c h = loaded-sound entry.CurrentA true w c h
 written-sound register.CurrentBUpper w c h = loaded-sound entry.CurrentB false w c h
@@ -157,9 +156,7 @@ written-sound register.CurrentCount w c h = loaded-sound entry.CurrentCount fals
 written-sound register.BaseCount w c h = loaded-sound entry.BaseCount false w c h
 written-sound register.Pattern w c h = loaded-sound entry.PatternAndMask false w c h
 written-sound register.Mask w c h = loaded-sound entry.PatternAndMask true w c h
-written-sound register.Save w c h = h
 written-sound register.Vector w c h = loaded-sound entry.Vector false w c h
-written-sound register.ModeHigh w c h = h
 written-sound register.ModeLow w c h = loaded-sound entry.Mode true w c h
 written-sound register.ChainUpper w c h = chain-written false w c h
 written-sound register.ChainLower w c h = chain-written true w c h

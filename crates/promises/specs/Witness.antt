@@ -1,7 +1,7 @@
 -- The promises are not empty: machines and stretches for which all their premises hold. Assumes nothing.
 use mathlib.Core.Path.{_≡_, refl, sym, ap, subst}
 use mathlib.Core.Logic.{inl, inr}
-use mathlib.Core.Bool.{Bool, true, false, true≢false}
+use mathlib.Core.Bool.{true, false, true≢false}
 use mathlib.Core.List.{List, [], _∷_}
 use Prim.Native.Nat.{ℕ, zero, suc, _+_, _≤_, _<_}
 use native.Mathlib.Nat.{not-suc-le-zero, le-of-suc-le-suc}
@@ -10,8 +10,7 @@ use Rattle.facts.specs.Look.{look}
 use Rattle.space.specs.declared.Width.the-variants.{Byte}
 use Rattle.space.specs.declared.Place.{Place}
 use Rattle.space.specs.declared.Place.the-variants.{Memory, Io}
-use Rattle.space.specs.Space.{Spaces}
-use Rattle.laws.specs.Local.{In, Touches, places}
+use Rattle.laws.specs.Local.{In, places}
 use Rattle.laws.specs.Machine.{iter, Every, count₁, count₂, AllApart}
 use Rattle.laws.specs.Inter.{units₁, units₂}
 use Rattle.laws.specs.Op.{Area, done}
@@ -31,20 +30,18 @@ use Rattle.channel.specs.Ending.{movedBy, unended, afterUnit}
 use Rattle.control.specs.declared.Chain.the-variants.{NoChain}
 use Rattle.control.specs.declared.Bus.the-variants.{Free}
 use Rattle.control.specs.declared.Served.the-variants.{Nobody}
-use Rattle.rules.specs.declared.Choice.{Choice}
 use Rattle.rules.specs.declared.Choice.the-variants as chosen
 use Rattle.controller.specs.Controller.{at, with}
 use Rattle.choosing.specs.Channels.{interleaves}
 use Rattle.controller.specs.Choice.{turn, choice}
 use Rattle.rules.specs.Rules.{intentOf, choiceOf}
 use Rattle.controller.specs.Step.{unitOf, performOf, stepOf}
-use Rattle.port.specs.declared.Which.{Which}
 use Rattle.port.specs.declared.Which.the-variants.{One, Two}
 use Rattle.udc.specs.Reset.{noRegister, noSet, noChannel}
 use Rattle.promises.specs.Machine.{Machine, step, answer, next-choice, unit-reads, unit-writes}
 use Rattle.promises.specs.Own.{owns, Away}
 use Rattle.promises.specs.Demand2b.{seen, held, place, condition, At, Searched, demand2b}
-use Rattle.promises.specs.Demand3.{Start, Ready, Fine, view, alone, state, Demand3, demand3}
+use Rattle.promises.specs.Demand3.{Start, Fine, view, alone, state, Demand3, demand3}
 
 -- a channel with these current registers and this mode, ready to work; the software request is set
 unfoldable pub working : Set → ℕ → ℕ → Channel

@@ -4,9 +4,9 @@ ghost use Rattle.reading.specs.Reading.{keepsBus, waitsForBus, registerR
 use channel::Channel;
 use control::Bus;
 use controller::Controller;
-use port::Port;
 use port::Register;
 use port::Which;
+use readable::ReadPort;
 
 pub enum Reading {
     Refused(u8),
@@ -31,11 +31,10 @@ pub fn waits_for_bus(w: Which, u: Controller) -> bool
     u.channel(w).is_candidate() & !keeps_bus(w, bus)
 }
 
-fn register_read(r: Register, wfb: bool, c: Channel) -> u16
-    ensures { λ v. ⌜ v ≡ registerRead r wfb c ⌝ }
+fn register_read(r: Register, c: Channel) -> u16
+    ensures { λ v. ⌜ v ≡ registerRead r c ⌝ }
 {
     match r {
-        Register::CommandStatus => c.flags(wfb).status(),
         Register::CurrentAUpper => c.current.a.upper,
         Register::CurrentALower => c.current.a.lower,
         Register::CurrentBUpper => c.current.b.upper,
@@ -48,9 +47,7 @@ fn register_read(r: Register, wfb: bool, c: Channel) -> u16
         Register::BaseCount => c.base.count,
         Register::Pattern => c.pattern,
         Register::Mask => c.mask,
-        Register::Save => c.interrupt.save,
         Register::Vector => c.interrupt.vector as u16,
-        Register::ModeHigh => c.mode.high,
         Register::ModeLow => c.mode.low,
         Register::ChainUpper => c.chain.upper,
         Register::ChainLower => c.chain.lower,
@@ -62,8 +59,11 @@ pub fn read(u: Controller) -> Reading
 {
     let port = readable::read_port(u.pointer);
     match port {
-        Port::MasterMode => Reading::Value(u.master),
-        Port::Of(w, r) => Reading::Value(register_read(r, waits_for_bus(w, u), u.channel(w))),
-        Port::Nowhere => Reading::Refused(1),
+        ReadPort::MasterMode => Reading::Value(u.master),
+        ReadPort::Status(w) => Reading::Value(u.channel(w).flags(waits_for_bus(w, u)).status()),
+        ReadPort::Save(w) => Reading::Value(u.channel(w).interrupt.save),
+        ReadPort::ModeHigh(w) => Reading::Value(u.channel(w).mode.high),
+        ReadPort::Of(w, r) => Reading::Value(register_read(r, u.channel(w))),
+        ReadPort::Nowhere => Reading::Refused(1),
     }
 }

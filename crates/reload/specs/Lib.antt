@@ -1,2 +1,3 @@
 pub mod Reload
 pub mod Laws
+pub mod Length

@@ -68,12 +68,6 @@ turnBy true true true Nobody = Whose One
 turnBy true true true (Last One) = Whose Two
 turnBy true true true (Last Two) = Whose One
 
-abbrev pub isInterleave : RequestMode → Bool
-isInterleave Single = false
-isInterleave DemandHold = false
-isInterleave DemandRelease = false
-isInterleave DemandInterleave = true
-
 -- Rule 6. "Idle".
 abbrev pub turned : Turn → Facts → Choice
 turned Nobodys f = Idle

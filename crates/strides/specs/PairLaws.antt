@@ -8,7 +8,7 @@ use Rattle.port.specs.declared.Which.{Which}
 use Rattle.port.specs.declared.Which.the-variants.{One, Two}
 use Rattle.mode.specs.declared.RequestMode.{RequestMode}
 use Rattle.mode.specs.declared.RequestMode.the-variants.{Single, DemandHold, DemandRelease, DemandInterleave}
-use Rattle.mode.specs.Mode.{requestModeOf}
+use Rattle.mode.specs.Mode.{requestModeOf, isInterleave}
 use Rattle.reasons.specs.Reasons.{some}
 use Rattle.unit.specs.declared.Work.{Work}
 use Rattle.unit.specs.declared.Moved.{Moved}
@@ -25,7 +25,7 @@ use Rattle.control.specs.declared.Served.the-variants.{Last}
 use Rattle.control.specs.declared.Control.{Control}
 use Rattle.rules.specs.declared.Turn.the-variants.{Whose}
 use Rattle.rules.specs.declared.Choice.the-variants.{Unit}
-use Rattle.rules.specs.Rules.{isEnabled, isInterleaved, isInterleave, turnBy}
+use Rattle.rules.specs.Rules.{isEnabled, isInterleaved, turnBy}
 use Rattle.choosing.specs.Channels.{interleaves}
 use Rattle.control.specs.After.{unendedControl, controlBy}
 use Rattle.controller.specs.declared.Controller.{Controller}

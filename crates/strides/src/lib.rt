@@ -7,7 +7,6 @@ ghost use Rattle.space.specs.Space.{spaces};
 ghost use Rattle.port.specs.Ports.{other};
 ghost use Rattle.controller.specs.Step.{ranAs, holdOf};
 ghost use Rattle.strides.specs.Stride.{once, takeTurns, pairOf, rested, fetchesBy, strideBy, strideOf};
-use chain::Loaded;
 use control::Back;
 use controller::Answer;
 use controller::Controller;
@@ -24,6 +23,7 @@ use units::Pair;
 fn fetch(u: Controller, w: Which, stage: Stage, left: u32, eop: bool, memory: &[u8]) -> Ran
     ensures { λ r. ⌜ r ≡ fetchesBy eop w stage left u (now (memory .entry)) ⌝ }
 {
+    let c = u.channel(w);
     if eop {
         return Ran {
             state: u.drop_chain(w),
@@ -31,11 +31,11 @@ fn fetch(u: Controller, w: Which, stage: Stage, left: u32, eop: bool, memory: &[
             steps: 1,
         };
     }
-    let l = fetches::fetch_on(stage, left, u.channel(w), memory);
-    let channel = l.channel;
+    let l = fetches::fetch_on(stage, left, c, memory);
+    let d = l.channel;
     let next = l.next;
     Ran {
-        state: u.settle_fetch(w, Loaded { channel, next }),
+        state: u.settle_fetch(w, d, next),
         answer: Answer::Fetched(w, FetchAnswer {}),
         steps: l.words,
     }

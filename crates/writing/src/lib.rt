@@ -1,13 +1,13 @@
 // What is written at the pointer.
 ghost use mathlib.Core.Path.{_≡_};
-ghost use Rattle.commanding.specs.Commands.{isBusy};
-ghost use Rattle.writing.specs.Writing.{chainWritten, registerWritten, isCommand, storedBy, masterBy, writeOf};
+ghost use Rattle.writable.specs.declared.WritePort.the-variants.{MasterMode, Of};
+ghost use Rattle.writing.specs.Writing.{chainWritten, registerWritten, writeBy, writeOf};
 use channel::Channel;
 use commanding::Written;
 use controller::Controller;
-use port::Port;
 use port::Register;
 use port::Which;
+use writable::WritePort;
 
 fn write_chain(second: bool, w: u16, c: Channel) -> Channel
     ensures { λ r. ⌜ r ≡ chainWritten second w c ⌝ }
@@ -21,7 +21,6 @@ fn register_written(r: Register, w: u16, c: Channel) -> Channel
     ensures { λ v. ⌜ v ≡ registerWritten r w c ⌝ }
 {
     match r {
-        Register::CommandStatus => c,
         Register::CurrentAUpper => loading::current_a(false, w, c),
         Register::CurrentALower => loading::current_a(true, w, c),
         Register::CurrentBUpper => loading::current_b(false, w, c),
@@ -34,47 +33,16 @@ fn register_written(r: Register, w: u16, c: Channel) -> Channel
         Register::BaseCount => loading::base_count(w, c),
         Register::Pattern => loading::with_compare(false, w, c),
         Register::Mask => loading::with_compare(true, w, c),
-        Register::Save => c,
         Register::Vector => loading::vector(w, c),
-        Register::ModeHigh => c,
         Register::ModeLow => loading::with_mode(true, w, c),
         Register::ChainUpper => write_chain(false, w, c),
         Register::ChainLower => write_chain(true, w, c),
     }
 }
 
-fn is_command(r: Register) -> bool
-    ensures { λ b. ⌜ b ≡ isCommand r ⌝ }
-{
-    match r {
-        Register::CommandStatus => true,
-        Register::CurrentAUpper => false,
-        Register::CurrentALower => false,
-        Register::CurrentBUpper => false,
-        Register::CurrentBLower => false,
-        Register::BaseAUpper => false,
-        Register::BaseALower => false,
-        Register::BaseBUpper => false,
-        Register::BaseBLower => false,
-        Register::CurrentCount => false,
-        Register::BaseCount => false,
-        Register::Pattern => false,
-        Register::Mask => false,
-        Register::Save => false,
-        Register::Vector => false,
-        Register::ModeHigh => false,
-        Register::ModeLow => false,
-        Register::ChainUpper => false,
-        Register::ChainLower => false,
-    }
-}
-
 fn write_register(k: Which, r: Register, w: u16, u: Controller) -> Written
-    ensures { λ x. ⌜ x ≡ storedBy (isCommand r) (isBusy u) k r w u ⌝ }
+    ensures { λ x. ⌜ x ≡ writeBy (Of k r) w u ⌝ }
 {
-    if is_command(r) {
-        return commanding::obey(command::decode(w), k, u);
-    }
     if commanding::is_busy(u) {
         return commanding::refuse(2, u);
     }
@@ -82,7 +50,7 @@ fn write_register(k: Which, r: Register, w: u16, u: Controller) -> Written
 }
 
 fn write_master(w: u16, mut u: Controller) -> Written
-    ensures { λ r. ⌜ r ≡ masterBy (isBusy u) w u ⌝ }
+    ensures { λ r. ⌜ r ≡ writeBy MasterMode w u ⌝ }
 {
     if commanding::is_busy(u) {
         return commanding::refuse(2, u);
@@ -96,8 +64,9 @@ pub fn write(w: u16, u: Controller) -> Written
 {
     let port = writable::write_port(u.pointer);
     match port {
-        Port::MasterMode => write_master(w, u),
-        Port::Of(k, r) => write_register(k, r, w, u),
-        Port::Nowhere => commanding::refuse(1, u),
+        WritePort::MasterMode => write_master(w, u),
+        WritePort::Command(k) => commanding::obey(command::decode(w), k, u),
+        WritePort::Of(k, r) => write_register(k, r, w, u),
+        WritePort::Nowhere => commanding::refuse(1, u),
     }
 }

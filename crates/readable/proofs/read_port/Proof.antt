@@ -1,8 +1,6 @@
-use Rattle.facts.specs.Look.{look}
-use Rattle.facts.specs.Look.{look-none}
-use Rattle.readable.specs.Readable.{readPort}
-use Rattle.readable.specs.Readable.{readable}
-use Rattle.port.specs.declared.Port.the-variants.{Nowhere}
+use Rattle.facts.specs.Look.{look, look-none}
+use Rattle.readable.specs.Readable.{readable, readPort}
+use Rattle.readable.specs.declared.ReadPort.the-variants.{Nowhere}
 use Rattle.readable.proofs.read_port.Statement.{statement}
 use Rattle.readable.proofs.read_port.Tie as tie
 

@@ -1,8 +1,6 @@
-use Rattle.facts.specs.Look.{look}
-use Rattle.facts.specs.Look.{look-none}
-use Rattle.writable.specs.Writable.{writePort}
-use Rattle.writable.specs.Writable.{writable}
-use Rattle.port.specs.declared.Port.the-variants.{Nowhere}
+use Rattle.facts.specs.Look.{look, look-none}
+use Rattle.writable.specs.Writable.{writable, writePort}
+use Rattle.writable.specs.declared.WritePort.the-variants.{Nowhere}
 use Rattle.writable.proofs.write_port.Statement.{statement}
 use Rattle.writable.proofs.write_port.Tie as tie
 

@@ -15,4 +15,4 @@ fetch-spec =
     (λ c κs. search needs)
     (λ c κs. search needs)
     (λ c κs. search needs)
-    (λ c. rw (c .before .before .before .before .before .if1 .left, c .settle-fetch .ensures, c .before .fetch .ensures, c .before .before .read-memory .ensures, c .before .before .before .number .ensures, c .before .before .before .before .channel .ensures)))
+    (λ c. rw (c .before .before .before .before .before .before .if1 .left, c .settle-fetch .ensures, c .before .before .fetch .ensures, c .before .before .before .read-memory .ensures, c .before .before .before .before .number .ensures, c .before .before .before .before .before .channel .ensures)))

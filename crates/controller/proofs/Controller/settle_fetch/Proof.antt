@@ -11,4 +11,4 @@ settle-fetch-spec =
     (λ c κs. search needs)
     (λ c κs. search needs)
     (λ c κs. search needs)
-    (λ c. let a = c .before .before .before .before .before .before .args in fetched (a .w) (a .self) _ (a .l) _ _ _ (c .before .before .before .is-requesting .ensures) (c .before .before .is-interleaved .ensures) (c .before .control-fetched .ensures) (c .with-both .ensures)))
+    (λ c. let a = c .before .before .before .before .before .args in fetched (a .w) (a .self) _ (a .d) (a .next) _ _ _ (c .before .before .before .is-requesting .ensures) (c .before .before .is-interleaved .ensures) (c .before .control-fetched .ensures) (c .with-both .ensures)))

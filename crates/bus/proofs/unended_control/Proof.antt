@@ -1,6 +1,6 @@
 use borrow.Author.Needs.{needs}
-use Rattle.control.proofs.unended_control.Statement.{statement}
-use Rattle.control.proofs.unended_control.Tie as tie
+use Rattle.bus.proofs.unended_control.Statement.{statement}
+use Rattle.bus.proofs.unended_control.Tie as tie
 
 pub unended-control-spec : {M : Type 1} → statement M
 unended-control-spec =

@@ -1,6 +1,6 @@
 use borrow.Author.Needs.{needs}
-use Rattle.control.proofs.control_fetched.Statement.{statement}
-use Rattle.control.proofs.control_fetched.Tie as tie
+use Rattle.bus.proofs.control_fetched.Statement.{statement}
+use Rattle.bus.proofs.control_fetched.Tie as tie
 
 pub control-fetched-spec : {M : Type 1} → statement M
 control-fetched-spec =

@@ -1,5 +1,5 @@
-use Rattle.control.proofs.chain_after.Statement.{statement}
-use Rattle.control.proofs.chain_after.Tie as tie
+use Rattle.bus.proofs.chain_after.Statement.{statement}
+use Rattle.bus.proofs.chain_after.Tie as tie
 
 pub chain-after-spec : {M : Type 1} → statement M
 chain-after-spec =

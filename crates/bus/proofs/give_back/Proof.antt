@@ -1,6 +1,6 @@
 use borrow.Author.Needs.{needs}
-use Rattle.control.proofs.give_back.Statement.{statement}
-use Rattle.control.proofs.give_back.Tie as tie
+use Rattle.bus.proofs.give_back.Statement.{statement}
+use Rattle.bus.proofs.give_back.Tie as tie
 
 pub give-back-spec : {M : Type 1} → statement M
 give-back-spec =

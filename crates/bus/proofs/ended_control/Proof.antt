@@ -1,6 +1,6 @@
 use borrow.Author.Needs.{needs}
-use Rattle.control.proofs.ended_control.Statement.{statement}
-use Rattle.control.proofs.ended_control.Tie as tie
+use Rattle.bus.proofs.ended_control.Statement.{statement}
+use Rattle.bus.proofs.ended_control.Tie as tie
 
 pub ended-control-spec : {M : Type 1} → statement M
 ended-control-spec =

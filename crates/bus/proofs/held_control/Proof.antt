@@ -1,6 +1,6 @@
 use borrow.Author.Needs.{needs}
-use Rattle.control.proofs.held_control.Statement.{statement}
-use Rattle.control.proofs.held_control.Tie as tie
+use Rattle.bus.proofs.held_control.Statement.{statement}
+use Rattle.bus.proofs.held_control.Tie as tie
 
 pub held-control-spec : {M : Type 1} → statement M
 held-control-spec =
