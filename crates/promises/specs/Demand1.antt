@@ -351,7 +351,7 @@ notCarried (unit w) u = not (carried (operationOf (at w u .mode)))
 abbrev pub oddSide : Intent → Controller → Bool
 oddSide nothing u = false
 oddSide (fetch w s) u = false
-oddSide (unit w) u = oddWord (operationOf (at w u .mode)) (isFlipped (at w u .mode)) (at w u .current)
+oddSide (unit w) u = oddWord (operationOf (at w u .mode) .moves) (isFlipped (at w u .mode)) (at w u .current)
 
 abbrev pub stepTable : Controller → List (Bool × ℕ)
 stepTable u = (oddStart (intent u) u, 6) ∷ (notCarried (intent u) u, 7) ∷ (oddSide (intent u) u, 8) ∷ []
@@ -396,7 +396,7 @@ unit-table : (w : Which) (u : Controller) → refusal (unitBy (unitRefusal (at w
 unfolding table unitRefusal
 unit-table w u =
     unit-number (unitRefusal (at w u .mode) (at w u .current)) w
-    ∙ refusal-by (carried (operationOf (at w u .mode))) (oddWord (operationOf (at w u .mode)) (isFlipped (at w u .mode)) (at w u .current))
+    ∙ refusal-by (carried (operationOf (at w u .mode))) (oddWord (operationOf (at w u .mode) .moves) (isFlipped (at w u .mode)) (at w u .current))
 
 fetch-table : (s : Stage) (b : Bool) (w : Which) (u : Controller) → isOdd (at w u .chain) ≡ b → refusal (fetchBy s b w) ≡ table (fetch w s) u
 unfolding table
