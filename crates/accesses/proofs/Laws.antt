@@ -1,90 +1,49 @@
--- The rise of an address is its step, and the forms are made of their calls' answers.
-use mathlib.Core.Path.{_≡_, refl, ap, _∙_}
+-- The accesses made of their calls' answers.
+use mathlib.Core.Path.{_≡_, sym, ap}
 use mathlib.Core.Bool.{Bool, true, false}
-use Prim.Native.Nat.{ℕ, _+_, _*_, _/_, _%_, _≤_}
-use native.Mathlib.Omega.{arith}
+use Prim.Native.Nat.{ℕ}
 use Rattle.space.specs.declared.Width.{Width}
 use Rattle.space.specs.declared.Width.the-variants.{Byte, Word}
-use Rattle.space.specs.declared.Direction.{Direction}
-use Rattle.space.specs.declared.Direction.the-variants.{Up, Down, Hold}
-use Rattle.space.specs.Space.{Spaces, placeAt, addressOf, written}
-use Rattle.stepping.specs.Stepping.{moved, steppedBy}
+use Rattle.space.specs.Space.{Spaces, readAt, written}
+use Rattle.space.specs.Laws.{value-read, value-written}
+use Rattle.counting.specs.Count.{fewer}
 use Rattle.funnel.specs.Funnel.{joined, firstHalf, secondHalf}
 use Rattle.address.specs.declared.Address.{Address}
 use Rattle.address.specs.declared.Set.{Set}
-use Rattle.tag.specs.Tag.{isMemory, directionOf}
-use Rattle.address.specs.Address.{number, withNumber, placeOf, steppedOn, sourceOf, destinationOf, orderOf}
-use Rattle.accesses.specs.declared.Got.{Got}
-use Rattle.accesses.specs.declared.Done.{Done}
-use Rattle.accesses.specs.Forms.{Put, rise, riseOf, strideIn, gotAt, putAs, putAt, doneWith, doneAs, transferred, bytesToWord, wordToBytes}
+use Rattle.address.specs.Address.{placeOf, steppedOn, sourceOf, destinationOf, orderOf}
+use Rattle.operation.specs.declared.Moves.the-variants.{Transfer, Search, Funnel}
+use Rattle.accesses.specs.Accesses.{Effect, setOf, doneAs, datumAt, storedAt, steppedSet, accessed}
 
--- ---- the rise of an address
+-- registers, a datum and spaces
+abbrev left : Set → ℕ → Spaces → Effect
+left s v z = doneAs (record { set = s; datum = v }) z
 
--- an address is put into a register modulo 2^24
-same-number : (a : Address) (m n : ℕ) → m % 16777216 ≡ n % 16777216 → withNumber a m ≡ withNumber a n
-same-number a m n e = λ i. record { upper = up i; lower = low i }
-  where
-    up : m / 65536 % 256 * 256 + a .upper % 256 ≡ n / 65536 % 256 * 256 + a .upper % 256
-    up = omega arith
+pub transfer-made : (flip : Bool) (s : Set) (w : Width) (z z′ : Spaces) (from to from′ to′ : Address) (v : ℕ) (n : Set)
+    → from ≡ sourceOf flip s → (v ≡ readAt w z (placeOf from)) × (from′ ≡ steppedOn w from)
+    → to ≡ destinationOf flip s → (to′ ≡ steppedOn w to) × (z′ ≡ written w z (placeOf to) v)
+    → n ≡ setOf flip from′ to′ (fewer (s .count)) → left n v z′ ≡ accessed (Transfer w) flip s z
+unfolding accessed steppedSet datumAt storedAt
+transfer-made flip s w z z′ from to from′ to′ v n ef er et ew en = rw (en, ew .1, ew .0, er .1, er .0, et, ef, value-read, value-written)
 
-    low : m % 65536 ≡ n % 65536
-    low = omega arith
+pub search-made : (flip : Bool) (s : Set) (w : Width) (z : Spaces) (from to from′ : Address) (v : ℕ) (n : Set)
+    → from ≡ sourceOf flip s → (v ≡ readAt w z (placeOf from)) × (from′ ≡ steppedOn w from)
+    → to ≡ destinationOf flip s → n ≡ setOf flip from′ to (fewer (s .count)) → left n v z ≡ accessed (Search w) flip s z
+unfolding accessed steppedSet datumAt storedAt
+search-made flip s w z from to from′ v n ef er et en = rw (en, er .1, er .0, et, ef, value-read)
 
-risen-by : (d : Direction) (by n : ℕ) → by ≤ 2 → (n + rise d by) % 4294967296 % 16777216 ≡ moved d by n % 16777216
-risen-by Up by n h = omega arith
-risen-by Down by n h = omega arith
-risen-by Hold by n h = omega arith
+pub bytes-made : (s : Set) (z z′ : Spaces) (x y v : ℕ) (half next to : Address) (high : Bool) (n : Set)
+    → (x ≡ readAt Byte z (placeOf (s .a))) × (half ≡ steppedOn Byte (s .a)) → (y ≡ readAt Byte z (placeOf half)) × (next ≡ steppedOn Byte half)
+    → high ≡ orderOf s → v ≡ joined high x y → (to ≡ steppedOn Word (s .b)) × (z′ ≡ written Word z (placeOf (s .b)) v)
+    → n ≡ setOf false next to (fewer (s .count)) → left n v z′ ≡ accessed Funnel false s z
+unfolding accessed steppedSet datumAt storedAt
+bytes-made s z z′ x y v half next to high n e₁ e₂ eh ev ew en =
+    rw (en, ew .1, ew .0, ev, e₂ .1, e₂ .0, e₁ .1, e₁ .0, eh) (ap (left _ _) (sym (value-written Word z (placeOf (s .b)) _)))
 
-pub word-stride : (memory : Bool) → 2 ≡ strideIn memory Word
-word-stride true = refl
-word-stride false = refl
-
-pub small : (memory : Bool) (w : Width) → strideIn memory w ≤ 2
-small true Byte = omega arith
-small true Word = omega arith
-small false w = omega arith
-
-moved-in : (d : Direction) (memory : Bool) (w : Width) (n : ℕ) → moved d (strideIn memory w) n ≡ addressOf (steppedBy d w (placeAt memory n))
-moved-in d true Byte n = refl
-moved-in d true Word n = refl
-moved-in d false w n = refl
-
-pub risen : (a : Address) (w : Width) (n r : ℕ) → n ≡ number a → r ≡ riseOf (a .upper) w → withNumber a ((n + r) % 4294967296) ≡ steppedOn w a
-unfolding riseOf steppedOn placeOf
-risen a w n r en er =
-    let d = directionOf (a .upper) in
-    let by = strideIn (isMemory (a .upper)) w in
-    rw (er, en) (same-number a _ _ (risen-by d by (number a) (small (isMemory (a .upper)) w))
-    ∙ ap (withNumber a) (moved-in d (isMemory (a .upper)) w (number a)))
-
--- ---- the forms made of their calls' answers
-
-pub transfer-made : (flip : Bool) (s : Set) (w : Width) (z z′ : Spaces) (from to next : Address) (got : Got) (r : Done)
-    → from ≡ sourceOf flip s → got ≡ gotAt w from z → to ≡ destinationOf flip s → putAs next z′ ≡ putAt w to (got .datum) z
-    → r ≡ doneWith flip (got .next) next (s .count) (got .datum) → doneAs r z′ ≡ transferred flip s w z
-unfolding transferred
-transfer-made flip s w z z′ from to next got r ef eg et ep er =
-    let ea : next ≡ steppedOn w to = ap (λ (x : Put). x .next) ep in
-    let ez : z′ ≡ written w z (placeOf to) (got .datum) = ap (λ (x : Put). x .spaces) ep in
-    rw (er, ea, ez, eg, et, ef)
-
-pub bytes-made : (s : Set) (z z′ : Spaces) (one two : Got) (h : Bool) (v : ℕ) (next : Address) (r : Done)
-    → one ≡ gotAt Byte (s .a) z → two ≡ gotAt Byte (one .next) z → h ≡ orderOf s → v ≡ joined h (one .datum) (two .datum)
-    → putAs next z′ ≡ putAt Word (s .b) v z → r ≡ doneWith false (two .next) next (s .count) v → doneAs r z′ ≡ bytesToWord s z
-unfolding bytesToWord
-bytes-made s z z′ one two h v next r e₁ e₂ eh ev ep er =
-    let ea : next ≡ steppedOn Word (s .b) = ap (λ (x : Put). x .next) ep in
-    let ez : z′ ≡ written Word z (placeOf (s .b)) v = ap (λ (x : Put). x .spaces) ep in
-    rw (er, ea, ez, ev, e₂, e₁, eh)
-
-pub word-made : (s : Set) (z z₁ z₂ : Spaces) (h : Bool) (got : Got) (x y : ℕ) (half next : Address) (r : Done)
-    → h ≡ orderOf s → got ≡ gotAt Word (s .b) z → x ≡ firstHalf h (got .datum) → putAs half z₁ ≡ putAt Byte (s .a) x z
-    → y ≡ secondHalf h (got .datum) → putAs next z₂ ≡ putAt Byte half y z₁ → r ≡ doneWith true (got .next) next (s .count) (got .datum)
-    → doneAs r z₂ ≡ wordToBytes s z
-unfolding wordToBytes
-word-made s z z₁ z₂ h got x y half next r eh eg ex e₁ ey e₂ er =
-    let ea : next ≡ steppedOn Byte half = ap (λ (p : Put). p .next) e₂ in
-    let ez : z₂ ≡ written Byte z₁ (placeOf half) y = ap (λ (p : Put). p .spaces) e₂ in
-    let eb : half ≡ steppedOn Byte (s .a) = ap (λ (p : Put). p .next) e₁ in
-    let ew : z₁ ≡ written Byte z (placeOf (s .a)) x = ap (λ (p : Put). p .spaces) e₁ in
-    rw (er, ea, ez, eb, ew, ey, ex, eg, eh)
+pub word-made : (s : Set) (z z₁ z₂ : Spaces) (high : Bool) (v x y : ℕ) (next half to : Address) (n : Set)
+    → high ≡ orderOf s → (v ≡ readAt Word z (placeOf (s .b))) × (next ≡ steppedOn Word (s .b)) → x ≡ firstHalf high v
+    → (half ≡ steppedOn Byte (s .a)) × (z₁ ≡ written Byte z (placeOf (s .a)) x) → y ≡ secondHalf high v
+    → (to ≡ steppedOn Byte half) × (z₂ ≡ written Byte z₁ (placeOf half) y) → n ≡ setOf true next to (fewer (s .count))
+    → left n v z₂ ≡ accessed Funnel true s z
+unfolding accessed steppedSet datumAt storedAt
+word-made s z z₁ z₂ high v x y next half to n eh er ex e₁ ey e₂ en =
+    rw (en, e₂ .1, e₂ .0, ey, e₁ .1, e₁ .0, ex, er .1, er .0, eh) (rw (← value-read Word z (placeOf (s .b))))

@@ -1,42 +1,15 @@
 // The accesses of a unit: what it reads and writes, and the registers that step after each.
 ghost use mathlib.Core.Path.{_≡_};
-ghost use Rattle.space.specs.Space.{spaces};
-ghost use Rattle.address.specs.Address.{number, steppedOn};
-ghost use Rattle.accesses.specs.Forms.{strideIn, riseOf, gotAt, putAs, putAt, doneWith, doneAs, transferred, searched, bytesToWord, wordToBytes, formed};
+ghost use mathlib.Core.Bool.{true, false};
+ghost use Rattle.space.specs.Space.{spaces, readAt, written};
+ghost use Rattle.counting.specs.Count.{fewer};
+ghost use Rattle.operation.specs.declared.Moves.the-variants.{Transfer, Search, Funnel};
+ghost use Rattle.address.specs.Address.{placeOf, steppedOn};
+ghost use Rattle.accesses.specs.Accesses.{setOf, doneAs, accessed};
 use address::Address;
 use address::Set;
-use operation::Operation;
+use operation::Moves;
 use space::Width;
-
-// By how much an address steps: memory bytes by 1, words and all I/O by 2.
-fn stride_of(memory: bool, w: Width) -> u32
-    ensures { λ r. ⌜ r ≡ strideIn memory w ⌝ }
-{
-    match w {
-        Width::Byte => if memory { 1 } else { 2 },
-        Width::Word => 2,
-    }
-}
-
-// By how much an address rises at a step, modulo 2^24: a step down is a rise by the rest.
-fn rise_of(upper: u16, w: Width) -> u32
-    ensures { λ r. ⌜ r ≡ riseOf upper w ⌝ }
-{
-    let by = stride_of(tag::is_memory(upper), w);
-    let field = (upper >> 3) & 3;
-    if field == 0 {
-        return by;
-    }
-    if field == 1 { 16777216 - by } else { 0 }
-}
-
-// The register after an access, by the number that the access was made at.
-fn stepped_from(a: Address, n: u32, w: Width) -> Address
-    requires { ⌜ n ≡ number a ⌝ }
-    ensures { λ r. ⌜ r ≡ steppedOn w a ⌝ }
-{
-    a.with_number(std::num::wrapping_add_u32(n, rise_of(a.upper, w)))
-}
 
 // What a read leaves: its datum and the register after it.
 struct Got {
@@ -45,18 +18,19 @@ struct Got {
 }
 
 fn read_on(a: Address, w: Width, memory: &[u8], io: &[u8]) -> Got
-    ensures { λ r. ⌜ r ≡ gotAt w a (spaces (now (memory .entry)) (now (io .entry))) ⌝ }
+    ensures { λ r. ⌜ (r .datum ≡ readAt w (spaces (now (memory .entry)) (now (io .entry))) (placeOf a)) × (r .next ≡ steppedOn w a) ⌝ }
 {
     let n = a.number();
     let datum = space::read(memory, io, space::place_at(tag::is_memory(a.upper), n), w);
     Got {
         datum,
-        next: stepped_from(a, n, w),
+        next: a.stepped_from(n, w),
     }
 }
 
+// The register after a write.
 fn write_on(a: Address, w: Width, datum: u16, memory: &mut [u8], io: &mut [u8]) -> Address
-    ensures { λ r. ⌜ putAs r (spaces (now (memory .exit)) (now (io .exit))) ≡ putAt w a datum (spaces (now (memory .entry)) (now (io .entry))) ⌝ }
+    ensures { λ r. ⌜ (r ≡ steppedOn w a) × (spaces (now (memory .exit)) (now (io .exit)) ≡ written w (spaces (now (memory .entry)) (now (io .entry))) (placeOf a) datum) ⌝ }
 {
     let n = a.number();
     space::write(
@@ -66,7 +40,7 @@ fn write_on(a: Address, w: Width, datum: u16, memory: &mut [u8], io: &mut [u8]) 
         w,
         datum,
     );
-    stepped_from(a, n, w)
+    a.stepped_from(n, w)
 }
 
 // What a unit's accesses leave: the registers stepped and counted, and the datum.
@@ -75,61 +49,64 @@ pub struct Done {
     pub datum: u16,
 }
 
-// The sides' next registers in their places: flip 0 goes from A to B, flip 1 the reverse.
-fn finished(flip: bool, from: Address, to: Address, count: u16, datum: u16) -> Done
-    ensures { λ r. ⌜ r ≡ doneWith flip from to count datum ⌝ }
+// The sides' next registers in their places, and the count one less.
+fn next_set(flip: bool, source: Address, destination: Address, count: u16) -> Set
+    ensures { λ r. ⌜ r ≡ setOf flip source destination (fewer count) ⌝ }
 {
-    let next = counting::one_fewer(count);
+    let fewer = counting::one_fewer(count);
     if flip {
-        Done {
-            set: Set {
-                a: to,
-                b: from,
-                count: next,
-            },
-            datum,
+        Set {
+            a: destination,
+            b: source,
+            count: fewer,
         }
     } else {
-        Done {
-            set: Set {
-                a: from,
-                b: to,
-                count: next,
-            },
-            datum,
+        Set {
+            a: source,
+            b: destination,
+            count: fewer,
         }
     }
 }
 
 fn transfer(flip: bool, s: Set, w: Width, memory: &mut [u8], io: &mut [u8]) -> Done
-    ensures { λ r. ⌜ doneAs r (spaces (now (memory .exit)) (now (io .exit))) ≡ transferred flip s w (spaces (now (memory .entry)) (now (io .entry))) ⌝ }
+    ensures { λ r. ⌜ doneAs r (spaces (now (memory .exit)) (now (io .exit))) ≡ accessed (Transfer w) flip s (spaces (now (memory .entry)) (now (io .entry))) ⌝ }
 {
     let got = read_on(s.source(flip), w, memory, io);
     let to = write_on(s.destination(flip), w, got.datum, memory, io);
-    finished(flip, got.next, to, s.count, got.datum)
+    Done {
+        set: next_set(flip, got.next, to, s.count),
+        datum: got.datum,
+    }
 }
 
 // A search changes neither space and steps its source alone.
 fn search_source(flip: bool, s: Set, w: Width, memory: &[u8], io: &[u8]) -> Done
-    ensures { λ r. ⌜ r ≡ searched flip s w (spaces (now (memory .entry)) (now (io .entry))) ⌝ }
+    ensures { λ r. ⌜ doneAs r (spaces (now (memory .entry)) (now (io .entry))) ≡ accessed (Search w) flip s (spaces (now (memory .entry)) (now (io .entry))) ⌝ }
 {
     let got = read_on(s.source(flip), w, memory, io);
-    finished(flip, got.next, s.destination(flip), s.count, got.datum)
+    Done {
+        set: next_set(flip, got.next, s.destination(flip), s.count),
+        datum: got.datum,
+    }
 }
 
 // In funnelling the byte side steps after each of its two accesses.
 fn bytes_to_word(s: Set, memory: &mut [u8], io: &mut [u8]) -> Done
-    ensures { λ r. ⌜ doneAs r (spaces (now (memory .exit)) (now (io .exit))) ≡ bytesToWord s (spaces (now (memory .entry)) (now (io .entry))) ⌝ }
+    ensures { λ r. ⌜ doneAs r (spaces (now (memory .exit)) (now (io .exit))) ≡ accessed Funnel false s (spaces (now (memory .entry)) (now (io .entry))) ⌝ }
 {
     let first = read_on(s.a, Width::Byte, memory, io);
     let second = read_on(first.next, Width::Byte, memory, io);
     let datum = funnel::join(s.is_high_first(), first.datum, second.datum);
     let to = write_on(s.b, Width::Word, datum, memory, io);
-    finished(false, second.next, to, s.count, datum)
+    Done {
+        set: next_set(false, second.next, to, s.count),
+        datum,
+    }
 }
 
 fn word_to_bytes(s: Set, memory: &mut [u8], io: &mut [u8]) -> Done
-    ensures { λ r. ⌜ doneAs r (spaces (now (memory .exit)) (now (io .exit))) ≡ wordToBytes s (spaces (now (memory .entry)) (now (io .entry))) ⌝ }
+    ensures { λ r. ⌜ doneAs r (spaces (now (memory .exit)) (now (io .exit))) ≡ accessed Funnel true s (spaces (now (memory .entry)) (now (io .entry))) ⌝ }
 {
     let high = s.is_high_first();
     let got = read_on(s.b, Width::Word, memory, io);
@@ -147,24 +124,25 @@ fn word_to_bytes(s: Set, memory: &mut [u8], io: &mut [u8]) -> Done
         memory,
         io,
     );
-    finished(true, got.next, to, s.count, got.datum)
+    Done {
+        set: next_set(true, got.next, to, s.count),
+        datum: got.datum,
+    }
 }
 
 // The accesses of a unit: each form apart, since each does less than one form of all.
-pub fn access(o: Operation, flip: bool, s: Set, memory: &mut [u8], io: &mut [u8]) -> Done
-    ensures { λ r. ⌜ doneAs r (spaces (now (memory .exit)) (now (io .exit))) ≡ formed o flip s (spaces (now (memory .entry)) (now (io .entry))) ⌝ }
+pub fn access(moves: Moves, flip: bool, s: Set, memory: &mut [u8], io: &mut [u8]) -> Done
+    ensures { λ r. ⌜ doneAs r (spaces (now (memory .exit)) (now (io .exit))) ≡ accessed moves flip s (spaces (now (memory .entry)) (now (io .entry))) ⌝ }
 {
-    if o.is_funnelling() {
-        if flip {
-            word_to_bytes(s, memory, io)
-        } else {
-            bytes_to_word(s, memory, io)
-        }
-    } else {
-        if o.is_searching() {
-            search_source(flip, s, o.width_of_a(), memory, io)
-        } else {
-            transfer(flip, s, o.width_of_a(), memory, io)
+    match moves {
+        Moves::Transfer(w) => transfer(flip, s, w, memory, io),
+        Moves::Search(w) => search_source(flip, s, w, memory, io),
+        Moves::Funnel => {
+            if flip {
+                word_to_bytes(s, memory, io)
+            } else {
+                bytes_to_word(s, memory, io)
+            }
         }
     }
 }

@@ -5,8 +5,9 @@ use mathlib.Core.Bool.{Bool, cond}
 use lib.Dec.{eqb}
 use Rattle.space.specs.declared.Place.{Place}
 use Rattle.space.specs.declared.Width.{Width}
-use Rattle.space.specs.Space.{placeAt, addressOf}
-use Rattle.stepping.specs.Stepping.{steppedBy}
+use Rattle.space.specs.declared.Direction.the-variants.{Up}
+use Rattle.space.specs.Space.{placeAt}
+use Rattle.stepping.specs.Stepping.{stride, moved}
 use Rattle.funnel.specs.Funnel.{highFirst}
 use Rattle.address.specs.declared.Address.{Address}
 use Rattle.address.specs.declared.Set.{Set}
@@ -23,12 +24,13 @@ withNumber a n = record { upper = n / 65536 % 256 * 256 + a .upper % 256; lower 
 unfoldable pub placeOf : Address → Place
 placeOf a = placeAt (isMemory (a .upper)) (number a)
 
+-- Addresses are 24 bits and step modulo 16,777,216, by their own step field, in their own space.
 unfoldable pub steppedOn : Width → Address → Address
-steppedOn w a = withNumber a (addressOf (steppedBy (directionOf (a .upper)) w (placeOf a)))
+steppedOn w a = withNumber a (moved 16777216 (directionOf (a .upper)) (stride (isMemory (a .upper)) w) (number a))
 
 -- Each fetch of a chain adds 2.
 unfoldable pub fetchedOn : Address → Address
-fetchedOn a = withNumber a ((number a + 2) % 16777216)
+fetchedOn a = withNumber a (moved 16777216 Up 2 (number a))
 
 abbrev pub isOdd : Address → Bool
 isOdd a = eqb (a .lower % 2) 1

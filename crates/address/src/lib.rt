@@ -1,7 +1,7 @@
 // An address register, the 24-bit address that it holds and how it steps; the registers of an operation.
 ghost use mathlib.Core.Path.{_≡_};
-ghost use Rattle.address.specs.Address.{number, withNumber, placeOf, steppedOn, fetchedOn, isOdd, sourceOf, destinationOf, orderOf};
-use space::Place;
+ghost use Rattle.address.specs.Address.{number, withNumber, steppedOn, fetchedOn, isOdd, sourceOf, destinationOf, orderOf};
+use space::Direction;
 use space::Width;
 
 // An address register, as the two words that are read.
@@ -28,26 +28,20 @@ impl Address {
         }
     }
 
-    pub fn place(self) -> Place
-        ensures { λ r. ⌜ r ≡ placeOf self ⌝ }
-    {
-        space::place_at(tag::is_memory(self.upper), self.number())
-    }
-
-    // The register after an access of a width, by its step field.
-    pub fn stepped(self, w: Width) -> Address
+    // The register after an access of a width at its address n, by its step field.
+    pub fn stepped_from(self, n: u32, w: Width) -> Address
+        requires { ⌜ n ≡ number self ⌝ }
         ensures { λ r. ⌜ r ≡ steppedOn w self ⌝ }
     {
-        let next = stepping::stepped(self.place(), tag::direction_of(self.upper), w);
-        self.with_number(next.address())
+        let by = stepping::stride_of(tag::is_memory(self.upper), w);
+        self.with_number(stepping::stepped(n, tag::direction_of(self.upper), by))
     }
 
     // The chain address after a fetch: each adds 2.
     pub fn fetched(self) -> Address
         ensures { λ r. ⌜ r ≡ fetchedOn self ⌝ }
     {
-        let a = self.number();
-        self.with_number((a + 2) % 16777216)
+        self.with_number(stepping::stepped(self.number(), Direction::Up, 2))
     }
 
     pub fn is_odd(self) -> bool

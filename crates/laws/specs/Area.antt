@@ -12,7 +12,7 @@ use Rattle.space.specs.Space.{Spaces, get, placeAt}
 use Rattle.space.specs.Laws.{Inside, SameSize, inside-size, place-inj}
 use Rattle.laws.specs.Local.{In, Write}
 use Rattle.laws.specs.Op.{Area}
-use Rattle.laws.specs.Block.{To, Laid, Strips, laid-strips}
+use Rattle.laws.specs.Block.{To, Laid, laid-strips}
 use Rattle.laws.specs.Funnel.{to-bytes, to-word}
 use Rattle.laws.specs.Pace.{pace, up1-distinct, up2-distinct, down1-distinct, down2-distinct}
 

@@ -10,10 +10,11 @@ use native.Mathlib.Omega.{arith}
 use mathlib.Core.List.{List, [], _∷_}
 use Rattle.space.specs.declared.Place.{Place}
 use Rattle.space.specs.Space.{Spaces, get, put}
+use Rattle.space.specs.Bytes.{gets}
 use Rattle.space.specs.Laws.{get-put-same, Inside, SameSize, size-refl, size-trans, size-sym, size-put, inside-size}
-use Rattle.laws.specs.Local.{In, Agree, Prog, Write, gets, puts, places, gets-agree, puts-keeps, size-puts}
+use Rattle.laws.specs.Local.{In, Agree, Prog, Write, puts, places, gets-agree, puts-keeps, size-puts}
 use Rattle.laws.specs.Machine.{iter, Every, every-at, every-init}
-use Rattle.laws.specs.Op.{Ends, Seen, bump, after, done, Unended, seen-data, Steady, Area, Reads-at, datum}
+use Rattle.laws.specs.Op.{Seen, bump, after, done, Unended, seen-data, Steady, Area, Reads-at, datum}
 
 -- ---- a list of writes, read back
 

@@ -8,10 +8,11 @@ use mathlib.Core.List.{List, [], _∷_}
 use lib.ListN.{getD}
 use Rattle.space.specs.declared.Place.{Place}
 use Rattle.space.specs.Space.{Spaces, get}
+use Rattle.space.specs.Bytes.{gets}
 use Rattle.space.specs.Laws.{Bytes}
 use Rattle.funnel.specs.Funnel.{joined, firstHalf, secondHalf}
 use Rattle.funnel.specs.FunnelLaws.{halves-joined}
-use Rattle.laws.specs.Local.{Write, gets, gets-agree}
+use Rattle.laws.specs.Local.{Write, gets-agree}
 use Rattle.laws.specs.Block.{values, To, Arrived}
 
 -- ---- the accesses of a funnelled unit: a word's two places, its high half first; and two bytes, in the order they are moved

@@ -6,8 +6,8 @@ use Prim.Native.Nat.{ℕ, zero, suc}
 use mathlib.Core.List.{List, [], _∷_}
 use Rattle.space.specs.declared.Place.{Place}
 use Rattle.space.specs.Space.{Spaces, get}
-use Rattle.space.specs.Laws.{SameSize, size-trans, size-sym, Inside, ext}
-use Rattle.laws.specs.Local.{Agree, Done, Local, Mover}
+use Rattle.space.specs.Laws.{SameSize, size-trans, size-sym, ext}
+use Rattle.laws.specs.Local.{Agree, Mover}
 
 -- ---- one channel
 

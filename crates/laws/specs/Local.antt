@@ -6,10 +6,9 @@ use Prim.Native.Nat.{ℕ, suc}
 use lib.ListN.{getD}
 use mathlib.Core.List.{List, [], _∷_}
 use Rattle.space.specs.declared.Place.{Place}
-use Rattle.space.specs.declared.Width.{Width}
-use Rattle.space.specs.declared.Width.the-variants.{Byte, Word}
 use Rattle.space.specs.Space.{Spaces, get, put}
-use Rattle.space.specs.Laws.{after, place-discrete, Inside, Beyond, SameSize, size-refl, size-sym, size-trans, size-put, inside-size, beyond-size, inside-or-beyond, inside-dec, get-put-same, get-put-other, get-beyond, get-out, put-lost}
+use Rattle.space.specs.Bytes.{gets, stores}
+use Rattle.space.specs.Laws.{place-discrete, Inside, Beyond, SameSize, size-refl, size-sym, size-trans, size-put, inside-size, beyond-size, inside-or-beyond, inside-dec, get-put-same, get-put-other, get-beyond, get-out, put-lost}
 
 -- the place stands in the list
 abbrev pub In : Place → List Place → Type 0
@@ -63,10 +62,6 @@ pub record Prog (R : Type 0) : Type 0 where
   pub writes : R → List Write
   pub next : R → List ℕ → R
 
-abbrev pub gets : Spaces → List Place → List ℕ
-gets s [] = []
-gets s (l ∷ ls) = get s l ∷ gets s ls
-
 abbrev pub puts : List Write → List ℕ → Spaces → Spaces
 puts [] d s = s
 puts (w ∷ ws) d s = puts ws d (put s (w .to) (w .what d))
@@ -75,19 +70,10 @@ abbrev pub places : List Write → List Place
 places [] = []
 places (w ∷ ws) = w .to ∷ places ws
 
--- the bytes of an access, a word's high half first, before further ones
-abbrev pub bytesAt : Width → Place → List Place → List Place
-bytesAt Byte p more = p ∷ more
-bytesAt Word p more = p ∷ after p ∷ more
-
--- the writes to a list of places of what f gives, from number i on; and the same with the values in hand
+-- the writes to a list of places of what f gives, from number i on
 abbrev pub writing : ℕ → List Place → (List ℕ → List ℕ) → List Write
 writing i [] f = []
 writing i (p ∷ ps) f = record { to = p; what = λ d. getD (f d) i 255 } ∷ writing (suc i) ps f
-
-abbrev pub stores : ℕ → List Place → List ℕ → Spaces → Spaces
-stores i [] vs s = s
-stores i (p ∷ ps) vs s = stores (suc i) ps vs (put s p (getD vs i 255))
 
 pub puts-writing : (i : ℕ) (ps : List Place) (f : List ℕ → List ℕ) (d : List ℕ) (s : Spaces) → puts (writing i ps f) d s ≡ stores i ps (f d) s
 puts-writing i [] f d s = refl

@@ -4,7 +4,6 @@ use mathlib.Core.Path.{_≡_, refl, ap, _∙_, subst}
 use Prim.Native.Nat.{ℕ, zero, suc, _≤_, _<_, suc-le-suc}
 use native.Mathlib.Nat.{zero-lt-suc, le-of-suc-le-suc, not-suc-le-zero}
 use mathlib.Core.List.{List, [], _∷_}
-use Rattle.space.specs.declared.Place.{Place}
 use Rattle.space.specs.Space.{Spaces}
 use Rattle.space.specs.Laws.{SameSize}
 use Rattle.laws.specs.Local.{Mover}

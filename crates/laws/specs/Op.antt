@@ -1,13 +1,13 @@
 -- One channel's operation in a machine that does other things in between.
 -- Assumes nothing.
-use mathlib.Core.Path.{_≡_, sym, ap, _∙_, subst}
+use mathlib.Core.Path.{_≡_, ap, _∙_}
 use mathlib.Core.Bool.{Bool, true, false, _||_}
 use Prim.Native.Nat.{ℕ, zero, suc, _<_}
 use mathlib.Core.List.{List}
 use Rattle.space.specs.declared.Place.{Place}
 use Rattle.space.specs.Space.{Spaces}
-use Rattle.laws.specs.Local.{In, Agree, Prog, gets, gets-agree}
-use Rattle.laws.specs.Machine.{Every}
+use Rattle.space.specs.Bytes.{gets}
+use Rattle.laws.specs.Local.{In, Agree, Prog, gets-agree}
 
 -- why a unit ends the operation
 pub record Ends : Type 0 where
@@ -51,16 +51,6 @@ module _ {M R : Type 0} (v : Seen M R) where
   pub record Steady (n : ℕ) (At : ℕ → R → Type 0) (k : ℕ) (m : M) : Type 0 where
     pub goes : v .mine m ≡ true → ended (v .ends m) ≡ false → suc k < n → At (suc k) (v .reg (v .step m))
     pub rest : v .mine m ≡ false → At k (v .reg (v .step m))
-
-  -- so where the registers are changed by the channel's own units alone
-  pub steady-of : (p : Prog R) (n : ℕ) (At : ℕ → R → Type 0) (k : ℕ) (m : M) → At k (v .reg m)
-      → ((r : R) → suc k < n → At k r → (d : List ℕ) → At (suc k) (p .next r d))
-      → (v .mine m ≡ true → v .reg (v .step m) ≡ p .next (v .reg m) (seen-data p m))
-      → (v .mine m ≡ false → v .reg (v .step m) ≡ v .reg m) → Steady n At k m
-  steady-of p n At k m a next goes rest = record {
-    goes = λ e u b. subst (At (suc k)) (sym (goes e)) (next (v .reg m) b a (seen-data p m));
-    rest = λ e. subst (At k) (sym (rest e)) a;
-  }
 
 -- the places that the first n units read
 abbrev pub Area : ℕ → (ℕ → List Place) → Place → Type 0

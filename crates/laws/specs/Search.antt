@@ -12,7 +12,8 @@ use mathlib.Core.List.{List}
 use lib.Dec.{T, eqb, eqb→eq, eqb-refl}
 use Rattle.space.specs.declared.Place.{Place}
 use Rattle.space.specs.Space.{Spaces}
-use Rattle.laws.specs.Local.{Agree, Prog, gets}
+use Rattle.space.specs.Bytes.{gets}
+use Rattle.laws.specs.Local.{Agree, Prog}
 use Rattle.laws.specs.Machine.{iter, Every, every-at, every-init}
 use Rattle.laws.specs.Op.{Ends, ended, Seen, bump, after, done, Unended, seen-data, Steady, Area, Reads-at, datum}
 
@@ -36,14 +37,6 @@ eqb-yes m n e = subst (λ (k : ℕ). eqb m k ≡ true) e (go (eqb m m) (eqb-refl
     go : (b : Bool) → T b → b ≡ true
     go true t = refl
     go false t = absurd t
-
--- two tests whose equations come to the same
-pub eqb-same : (a b c d : ℕ) → (a ≡ b → c ≡ d) → (c ≡ d → a ≡ b) → eqb a b ≡ eqb c d
-eqb-same a b c d f g = go (ℕ-discrete a b)
-  where
-    go : Dec (a ≡ b) → eqb a b ≡ eqb c d
-    go (yes e) = eqb-yes a b e ∙ sym (eqb-yes c d (f e))
-    go (no h) = eqb-no a b h ∙ sym (eqb-no c d (λ e. h (g e)))
 
 or-right : (b : Bool) → (b || true) ≡ true
 or-right true = refl
@@ -71,7 +64,7 @@ pub before-first : (value : ℕ → Bool) (n stop k : ℕ) → First value n sto
 before-first value n stop k f b =
     unended-of (value k) (eqb (suc k) n) (f .before k b) (eqb-no (suc k) n (let h = f .below in omega (arith, h)))
 
--- there is one, and only one
+-- for request E12: there is one, and only one
 pub first-of : (value : ℕ → Bool) (n : ℕ) → zero < n → (stop : ℕ) × First value n stop
 first-of value zero h = absurd (not-suc-le-zero h)
 first-of value (suc n) h = go n zero (omega arith) (λ j b. absurd (not-suc-le-zero b))

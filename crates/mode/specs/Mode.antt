@@ -4,26 +4,17 @@ use mathlib.Core.Bool.{Bool, true, false}
 use mathlib.Core.List.{List, [], _∷_}
 use Rattle.facts.specs.Bits.{bitAt, bitIf}
 use Rattle.facts.specs.Look.{look}
-use Rattle.space.specs.declared.Width.the-variants.{Byte, Word}
 use Rattle.mode.specs.declared.Mode.{Mode}
 use Rattle.reasons.specs.declared.Reasons.{Reasons}
 use Rattle.operation.specs.declared.Operation.{Operation}
-use Rattle.operation.specs.declared.Operation.the-variants.{Transfer, FunnelledTransfer, TransferAndSearch, FunnelledTransferAndSearch, Search, Flyby, Illegal}
+use Rattle.operation.specs.Operation.{operationAt}
 use Rattle.mode.specs.declared.RequestMode.{RequestMode}
 use Rattle.mode.specs.declared.RequestMode.the-variants.{Single, DemandHold, DemandRelease, DemandInterleave}
 use Rattle.reasons.specs.Reasons.{triple}
 
--- 0 word, 1 byte, 8 and 9 funnelled transfer; 4 word, 5 byte, C and D funnelled transfer-and-search; E word, F byte search;
--- 2, 3, 6, 7 flyby; A, B illegal.
-abbrev pub operations : List (ℕ × Operation)
-operations =
-    (0, Transfer Word) ∷ (1, Transfer Byte) ∷ (8, FunnelledTransfer) ∷ (9, FunnelledTransfer)
-    ∷ (4, TransferAndSearch Word) ∷ (5, TransferAndSearch Byte) ∷ (0xC, FunnelledTransferAndSearch) ∷ (0xD, FunnelledTransferAndSearch)
-    ∷ (0xE, Search Word) ∷ (0xF, Search Byte) ∷ (2, Flyby) ∷ (3, Flyby) ∷ (6, Flyby) ∷ (7, Flyby) ∷ []
-
 -- 3-0 operation
 unfoldable pub operationOf : Mode → Operation
-operationOf m = look Illegal (m .low % 16) operations
+operationOf m = operationAt (m .low % 16)
 
 -- 4 flip
 abbrev pub isFlipped : Mode → Bool
@@ -52,12 +43,9 @@ reloadOf m = triple 10 (m .low)
 abbrev pub chainOf : Mode → Reasons
 chainOf m = triple 13 (m .low)
 
--- 17-16 match control; 18 DACK; 19 hardware mask; 20 software request
+-- 17-16 match control; 18 DACK (stored only); 19 hardware mask; 20 software request
 abbrev pub matchControl : Mode → ℕ
 matchControl m = m .high % 4
-
-abbrev pub hasDack : Mode → Bool
-hasDack m = bitAt 2 (m .high)
 
 abbrev pub isMasked : Mode → Bool
 isMasked m = bitAt 3 (m .high)

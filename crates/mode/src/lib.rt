@@ -2,10 +2,9 @@
 ghost use mathlib.Core.Path.{_≡_};
 ghost use Prim.Native.Nat.{_<_};
 ghost use Rattle.reasons.specs.Reasons.{triple};
-ghost use Rattle.mode.specs.Mode.{operationOf, requestModeOf, isFlipped, interruptOf, reloadOf, chainOf, matchControl, hasDack, isMasked, isRequested, withFlip, withMask, withRequest, keptHigh};
+ghost use Rattle.mode.specs.Mode.{operationOf, requestModeOf, isFlipped, interruptOf, reloadOf, chainOf, matchControl, isMasked, isRequested, withFlip, withMask, withRequest, keptHigh};
 use operation::Operation;
 use reasons::Reasons;
-use space::Width;
 
 // The triple whose lowest bit, TC, is bit k.
 fn triple_at(low: u16, k: u16) -> Reasons
@@ -36,24 +35,7 @@ impl Mode {
     pub fn operation(self) -> Operation
         ensures { λ r. ⌜ r ≡ operationOf self ⌝ }
     {
-        let code = self.low & 15;
-        match code {
-            0 => Operation::Transfer(Width::Word),
-            1 => Operation::Transfer(Width::Byte),
-            8 => Operation::FunnelledTransfer,
-            9 => Operation::FunnelledTransfer,
-            4 => Operation::TransferAndSearch(Width::Word),
-            5 => Operation::TransferAndSearch(Width::Byte),
-            12 => Operation::FunnelledTransferAndSearch,
-            13 => Operation::FunnelledTransferAndSearch,
-            14 => Operation::Search(Width::Word),
-            15 => Operation::Search(Width::Byte),
-            2 => Operation::Flyby,
-            3 => Operation::Flyby,
-            6 => Operation::Flyby,
-            7 => Operation::Flyby,
-            _ => Operation::Illegal,
-        }
+        operation::operation_of(self.low & 15)
     }
 
     pub fn is_flipped(self) -> bool
@@ -96,13 +78,6 @@ impl Mode {
         ensures { λ r. ⌜ r ≡ matchControl self ⌝ }
     {
         self.high & 3
-    }
-
-    // Stored only.
-    pub fn has_dack(self) -> bool
-        ensures { λ r. ⌜ r ≡ hasDack self ⌝ }
-    {
-        (self.high >> 2) & 1 == 1
     }
 
     pub fn is_masked(self) -> bool

@@ -1,106 +1,84 @@
-// What an operation does: whether it compares, searches or funnels, and how wide its sides are.
+// What an operation does, a row for each code.
 ghost use mathlib.Core.Path.{_≡_};
-ghost use Rattle.operation.specs.Operation.{carried, compares, searches, funnels, widthOfA, widthOfB};
+ghost use Rattle.operation.specs.Operation.{moving, comparing, notCarried, operationAt, datumWidth};
 use space::Width;
 
-pub enum Operation {
+// What a unit does with its source and its destination. In funnelling A is the byte side and B the word side.
+pub enum Moves {
     Transfer(Width),
-    FunnelledTransfer,
-    TransferAndSearch(Width),
-    FunnelledTransferAndSearch,
     Search(Width),
-    Flyby,
-    Illegal,
+    Funnel,
 }
 
-impl Operation {
-    // Flyby and the illegal codes are not carried.
-    pub fn is_carried(self) -> bool
-        ensures { λ r. ⌜ r ≡ carried self ⌝ }
-    {
-        match self {
-            Operation::Transfer(_) => true,
-            Operation::FunnelledTransfer => true,
-            Operation::TransferAndSearch(_) => true,
-            Operation::FunnelledTransferAndSearch => true,
-            Operation::Search(_) => true,
-            Operation::Flyby => false,
-            Operation::Illegal => false,
-        }
-    }
+pub struct Operation {
+    pub carried: bool,
+    pub compares: bool,
+    pub moves: Moves,
+}
 
-    // Only searches and transfers-and-search compare.
-    pub fn is_comparing(self) -> bool
-        ensures { λ r. ⌜ r ≡ compares self ⌝ }
-    {
-        match self {
-            Operation::Transfer(_) => false,
-            Operation::FunnelledTransfer => false,
-            Operation::TransferAndSearch(_) => true,
-            Operation::FunnelledTransferAndSearch => true,
-            Operation::Search(_) => true,
-            Operation::Flyby => false,
-            Operation::Illegal => false,
-        }
+fn moving(moves: Moves) -> Operation
+    ensures { λ r. ⌜ r ≡ moving moves ⌝ }
+{
+    Operation {
+        carried: true,
+        compares: false,
+        moves,
     }
+}
 
-    // A search changes neither space, and steps the source only.
-    pub fn is_searching(self) -> bool
-        ensures { λ r. ⌜ r ≡ searches self ⌝ }
-    {
-        match self {
-            Operation::Transfer(_) => false,
-            Operation::FunnelledTransfer => false,
-            Operation::TransferAndSearch(_) => false,
-            Operation::FunnelledTransferAndSearch => false,
-            Operation::Search(_) => true,
-            Operation::Flyby => false,
-            Operation::Illegal => false,
-        }
+fn comparing(moves: Moves) -> Operation
+    ensures { λ r. ⌜ r ≡ comparing moves ⌝ }
+{
+    Operation {
+        carried: true,
+        compares: true,
+        moves,
     }
+}
 
-    // In funnelling A is the byte side and B the word side.
-    pub fn is_funnelling(self) -> bool
-        ensures { λ r. ⌜ r ≡ funnels self ⌝ }
-    {
-        match self {
-            Operation::Transfer(_) => false,
-            Operation::FunnelledTransfer => true,
-            Operation::TransferAndSearch(_) => false,
-            Operation::FunnelledTransferAndSearch => true,
-            Operation::Search(_) => false,
-            Operation::Flyby => false,
-            Operation::Illegal => false,
-        }
+fn not_carried() -> Operation
+    ensures { λ r. ⌜ r ≡ notCarried ⌝ }
+{
+    Operation {
+        carried: false,
+        compares: false,
+        moves: Moves::Transfer(Width::Byte),
     }
+}
 
-    // The width of side A; of what is not carried it means nothing.
-    pub fn width_of_a(self) -> Width
-        ensures { λ r. ⌜ r ≡ widthOfA self ⌝ }
-    {
-        match self {
-            Operation::Transfer(w) => w,
-            Operation::FunnelledTransfer => Width::Byte,
-            Operation::TransferAndSearch(w) => w,
-            Operation::FunnelledTransferAndSearch => Width::Byte,
-            Operation::Search(w) => w,
-            Operation::Flyby => Width::Byte,
-            Operation::Illegal => Width::Byte,
-        }
+pub fn operation_of(code: u16) -> Operation
+    ensures { λ r. ⌜ r ≡ operationAt code ⌝ }
+{
+    match code {
+        0 => moving(Moves::Transfer(Width::Word)),
+        1 => moving(Moves::Transfer(Width::Byte)),
+        2 => not_carried(),
+        3 => not_carried(),
+        4 => comparing(Moves::Transfer(Width::Word)),
+        5 => comparing(Moves::Transfer(Width::Byte)),
+        6 => not_carried(),
+        7 => not_carried(),
+        8 => moving(Moves::Funnel),
+        9 => moving(Moves::Funnel),
+        10 => not_carried(),
+        11 => not_carried(),
+        12 => comparing(Moves::Funnel),
+        13 => comparing(Moves::Funnel),
+        14 => comparing(Moves::Search(Width::Word)),
+        15 => comparing(Moves::Search(Width::Byte)),
+        _ => not_carried(),
     }
+}
 
-    // The width of side B.
-    pub fn width_of_b(self) -> Width
-        ensures { λ r. ⌜ r ≡ widthOfB self ⌝ }
+impl Moves {
+    // In funnelling the datum is the word.
+    pub fn datum_width(self) -> Width
+        ensures { λ r. ⌜ r ≡ datumWidth self ⌝ }
     {
         match self {
-            Operation::Transfer(w) => w,
-            Operation::FunnelledTransfer => Width::Word,
-            Operation::TransferAndSearch(w) => w,
-            Operation::FunnelledTransferAndSearch => Width::Word,
-            Operation::Search(w) => w,
-            Operation::Flyby => Width::Byte,
-            Operation::Illegal => Width::Byte,
+            Moves::Transfer(w) => w,
+            Moves::Search(w) => w,
+            Moves::Funnel => Width::Word,
         }
     }
 }

@@ -10,10 +10,6 @@ use controller::Ran;
 use libc::STDOUT_FILENO;
 use port::Which;
 use reading::Reading;
-use space::Direction;
-use space::IoAddress;
-use space::MemoryAddress;
-use space::Place;
 use space::Width;
 
 // The reload table of Figure 24, from address 1020h on, as its reload word 03FFh takes it.
@@ -151,24 +147,31 @@ fn started(master: u16, lower: u16) -> Controller {
     state_after(c, 0x2C, 0x00A0)
 }
 
-// Words from a place on.
-fn store_words(memory: &mut [u8], io: &mut [u8], from: Place, words: &[u16]) {
+// Words from an address of a space on.
+fn store_words(memory: &mut [u8], io: &mut [u8], in_memory: bool, from: u32, words: &[u16]) {
     let mut at = from;
     let mut i = 0;
     while i < words.len() {
-        space::write(memory, io, at, Width::Word, words[i]);
-        at = stepping::stepped(at, Direction::Up, Width::Word);
+        space::write(
+            memory,
+            io,
+            space::place_at(in_memory, at),
+            Width::Word,
+            words[i],
+        );
+        at = std::num::wrapping_add_u32(at, 2);
         i += 1;
     }
 }
 
-fn has_words(memory: &[u8], io: &[u8], from: Place, words: &[u16]) -> bool {
+fn has_words(memory: &[u8], io: &[u8], in_memory: bool, from: u32, words: &[u16]) -> bool {
     let mut right = true;
     let mut at = from;
     let mut i = 0;
     while i < words.len() {
-        right = right & (space::read(memory, io, at, Width::Word) == words[i]);
-        at = stepping::stepped(at, Direction::Up, Width::Word);
+        let word = space::read(memory, io, space::place_at(in_memory, at), Width::Word);
+        right = right & (word == words[i]);
+        at = std::num::wrapping_add_u32(at, 2);
         i += 1;
     }
     right
@@ -235,14 +238,14 @@ fn is_ended(r: Ran) -> bool {
 fn is_block_right(memory: &mut [u8], io: &mut [u8]) -> bool {
     let r = running::run(started(0x0007, 0x1020), 19, memory, io);
     let moved = running::run(with_line(r.state), 16, memory, io);
-    is_ended(moved) & has_words(memory, io, Place::Io(IoAddress(0x1060)), &FRAME)
+    is_ended(moved) & has_words(memory, io, false, 0x1060, &FRAME)
 }
 
 // The tables and the words that they move lie apart in both spaces.
 fn store_tables(memory: &mut [u8], io: &mut [u8]) {
-    store_words(memory, io, Place::Memory(MemoryAddress(0x0100)), &SEARCH);
-    store_words(memory, io, Place::Memory(MemoryAddress(0x1020)), &TABLE);
-    store_words(memory, io, Place::Io(IoAddress(0x1F00)), &FRAME);
+    store_words(memory, io, true, 0x0100, &SEARCH);
+    store_words(memory, io, true, 0x1020, &TABLE);
+    store_words(memory, io, false, 0x1F00, &FRAME);
 }
 
 fn say_what_runs(memory: &mut [u8], io: &mut [u8]) {

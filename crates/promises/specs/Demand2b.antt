@@ -9,8 +9,9 @@ use lib.Dec.{eqb}
 use Rattle.space.specs.declared.Width.{Width}
 use Rattle.space.specs.declared.Place.{Place}
 use Rattle.space.specs.Space.{Spaces, get}
+use Rattle.space.specs.Bytes.{bytesAt, valueOf, gets}
 use Rattle.board.specs.Board.{boardOf}
-use Rattle.laws.specs.Local.{Agree, Prog, gets, bytesAt}
+use Rattle.laws.specs.Local.{Agree, Prog}
 use Rattle.laws.specs.Machine.{iter, Every, every-map, every-init}
 use Rattle.laws.specs.Op.{Ends, ended, Seen, bump, after, done, Unended, seen-data, Area, Reads-at}
 use Rattle.laws.specs.Search.{First, outcome, Looking, Found, meets, search-ends}
@@ -23,12 +24,14 @@ use Rattle.address.specs.Address.{placeOf, steppedOn, sourceOf}
 use Rattle.mode.specs.declared.RequestMode.{RequestMode}
 use Rattle.mode.specs.declared.RequestMode.the-variants.{Single, DemandHold, DemandRelease, DemandInterleave}
 use Rattle.operation.specs.declared.Operation.{Operation}
-use Rattle.operation.specs.declared.Operation.the-variants.{Search}
+use Rattle.operation.specs.declared.Moves.the-variants.{Search}
+use Rattle.operation.specs.Operation.{comparing}
 use Rattle.mode.specs.Mode.{operationOf, isFlipped, matchControl, requestModeOf, isRequested}
 use Rattle.mode.specs.Laws.{control-request}
 use Rattle.reasons.specs.Reasons.{some}
 use Rattle.unit.specs.declared.Moved.{Moved}
-use Rattle.unit.specs.Unit.{bytes, readsOf, valueOf, datumOf, datumAt, storedAt, compared, steppedSet, movedOf, worked}
+use Rattle.accesses.specs.Accesses.{bytes, readsOf, datumOf, datumAt, storedAt, steppedSet}
+use Rattle.unit.specs.Unit.{compared, movedOf, worked}
 use Rattle.channel.specs.declared.Channel.{Channel}
 use Rattle.channel.specs.EndingLaws.{ends-exactly}
 use Rattle.channel.specs.Ending.{movedBy, reasonsOf, spent, unendedBy, unended, afterBy, afterUnit}
@@ -173,14 +176,6 @@ module _ (w : Which) (x : Moved) (c : Channel) (e : some (reasonsOf x false) ≡
 
 -- ---- a search
 
-search-reads : (d : Width) (flip : Bool) (s : Set) → bytes (readsOf (Search d) flip s) ≡ bytesAt d (placeOf (sourceOf flip s)) []
-search-reads d true s = refl
-search-reads d false s = refl
-
-search-datum : (d : Width) (flip : Bool) (s : Set) (x : List ℕ) → datumOf (Search d) flip s x ≡ valueOf d x
-search-datum d true s x = refl
-search-datum d false s x = refl
-
 search-steps : (d : Width) (flip : Bool) (s : Set) → sourceOf flip (steppedSet (Search d) flip s) ≡ steppedOn d (sourceOf flip s)
 unfolding steppedSet
 search-steps d true s = refl
@@ -231,7 +226,7 @@ module _ (w : Which) (d : Width) (a : Address) (n pattern mask control : ℕ) (f
 
   -- a search of n data from a, k of them done; no chain of the channel is pending or under way
   pub record At (k : ℕ) (r : Held) : Type 0 where
-    pub op : operationOf (r .channel .mode) ≡ Search d
+    pub op : operationOf (r .channel .mode) ≡ comparing (Search d)
     pub source : sourceOf (isFlipped (r .channel .mode)) (r .channel .current) ≡ steps d k a
     pub count : r .channel .current .count ≡ (n - k) % 65536
     pub pattern-is : r .channel .pattern ≡ pattern
@@ -242,17 +237,15 @@ module _ (w : Which) (d : Width) (a : Address) (n pattern mask control : ℕ) (f
 
   reads-at : Reads-at prog n place At
   reads-at k r b h =
-      ap (λ (o : Operation). bytes (readsOf o (isFlipped (r .channel .mode)) (r .channel .current))) (h .op)
-      ∙ search-reads d (isFlipped (r .channel .mode)) (r .channel .current)
+      ap (λ (o : Operation). bytes (readsOf (o .moves) (isFlipped (r .channel .mode)) (r .channel .current))) (h .op)
       ∙ ap (λ (x : Address). bytesAt d (placeOf x) []) (h .source)
 
   -- the datum of the unit is the value of what it reads
   datum-is : (k : ℕ) (m : Machine) → At k (held w m)
-      → datumAt (operationOf (channel w m .mode)) (isFlipped (channel w m .mode)) (channel w m .current) (m .spaces) ≡ valueOf d (gets (m .spaces) (unit-reads (channel w m)))
+      → datumAt (operationOf (channel w m .mode) .moves) (isFlipped (channel w m .mode)) (channel w m .current) (m .spaces) ≡ valueOf d (gets (m .spaces) (unit-reads (channel w m)))
   unfolding datumAt
   datum-is k m h =
-      ap (λ (o : Operation). datumOf o (isFlipped (channel w m .mode)) (channel w m .current) (gets (m .spaces) (unit-reads (channel w m)))) (h .op)
-      ∙ search-datum d (isFlipped (channel w m .mode)) (channel w m .current) (gets (m .spaces) (unit-reads (channel w m)))
+      ap (λ (o : Operation). datumOf (o .moves) (isFlipped (channel w m .mode)) (channel w m .current) (gets (m .spaces) (unit-reads (channel w m)))) (h .op)
 
   answers-of : (k : ℕ) (m : Machine) → k < n → At k (held w m)
       → ends-of (made w m) ≡ record { mc = condition (seen-data (seen w) prog m); tc = eqb (suc k) n }
@@ -269,7 +262,7 @@ module _ (w : Which) (d : Width) (a : Address) (n pattern mask control : ℕ) (f
     op = ap (λ (x : Channel). operationOf (x .mode)) (unit-left w m) ∙ g .op ∙ h .op;
     source = ap (λ (x : Channel). sourceOf (isFlipped (x .mode)) (x .current)) (unit-left w m)
         ∙ (λ i. sourceOf (g .flip i) (current-after w (made w m) (channel w m) e i))
-        ∙ ap (λ (o : Operation). sourceOf (isFlipped (channel w m .mode)) (steppedSet o (isFlipped (channel w m .mode)) (channel w m .current))) (h .op)
+        ∙ ap (λ (o : Operation). sourceOf (isFlipped (channel w m .mode)) (steppedSet (o .moves) (isFlipped (channel w m .mode)) (channel w m .current))) (h .op)
         ∙ search-steps d (isFlipped (channel w m .mode)) (channel w m .current)
         ∙ ap (steppedOn d) (h .source);
     count = ap (λ (x : Channel). x .current .count) (unit-left w m) ∙ ap (λ (s : Set). s .count) (current-after w (made w m) (channel w m) e)
@@ -314,8 +307,8 @@ module _ (w : Which) (d : Width) (a : Address) (n pattern mask control : ℕ) (f
   still : (k : ℕ) (m : Machine) → At k (held w m) → by (chosen.Unit w) m .spaces ≡ m .spaces
   unfolding performOf worked storedAt
   still k m h =
-      ap (λ (o : Operation). storedAt o (isFlipped (channel w m .mode)) (channel w m .current)
-      (datumAt (operationOf (channel w m .mode)) (isFlipped (channel w m .mode)) (channel w m .current) (m .spaces)) (m .spaces)) (h .op)
+      ap (λ (o : Operation). storedAt (o .moves) (isFlipped (channel w m .mode)) (channel w m .current)
+      (datumAt (operationOf (channel w m .mode) .moves) (isFlipped (channel w m .mode)) (channel w m .current) (m .spaces)) (m .spaces)) (h .op)
 
   kept-by : (k : ℕ) (m : Machine) → At k (held w m) → Away w (Area n place) m → (b : Bool) → owns w (next-choice m) ≡ b
       → Agree (Area n place) (step m .spaces) (m .spaces)

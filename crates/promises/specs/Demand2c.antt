@@ -11,9 +11,10 @@ use borrow.Author.Tests.{ne-eqb}
 use Rattle.space.specs.declared.Width.the-variants.{Byte, Word}
 use Rattle.space.specs.declared.Place.{Place}
 use Rattle.space.specs.Space.{Spaces, get, placeAt}
+use Rattle.space.specs.Bytes.{after, gets}
+use Rattle.space.specs.Laws.{SameSize, size-refl, Bytes}
 use Rattle.board.specs.Board.{boardOf}
-use Rattle.space.specs.Laws.{SameSize, size-refl, Bytes, after}
-use Rattle.laws.specs.Local.{Write, gets, puts, size-puts, writing}
+use Rattle.laws.specs.Local.{Write, puts, size-puts, writing}
 use Rattle.laws.specs.Machine.{iter, Every, every-map}
 use Rattle.laws.specs.Op.{ended, bump, done, Unended, Steady}
 use Rattle.laws.specs.Op as op
@@ -29,10 +30,13 @@ use Rattle.address.specs.declared.Set.{Set}
 use Rattle.address.specs.Address.{placeOf, steppedOn}
 use Rattle.address.specs.Laws.{Words}
 use Rattle.operation.specs.declared.Operation.{Operation}
-use Rattle.operation.specs.declared.Operation.the-variants.{FunnelledTransfer}
+use Rattle.operation.specs.declared.Moves.{Moves}
+use Rattle.operation.specs.declared.Moves.the-variants.{Funnel}
+use Rattle.operation.specs.Operation.{moving}
 use Rattle.mode.specs.Mode.{operationOf, isFlipped, requestModeOf}
 use Rattle.reasons.specs.Reasons.{some}
-use Rattle.unit.specs.Unit.{bytes, readsOf, writesOf, datumOf, writtenOf, datumAt, compared, steppedSet, movedOf, worked}
+use Rattle.accesses.specs.Accesses.{bytes, readsOf, writesOf, datumOf, writtenOf, datumAt, steppedSet}
+use Rattle.unit.specs.Unit.{compared, movedOf, worked}
 use Rattle.channel.specs.declared.Channel.{Channel}
 use Rattle.channel.specs.EndingLaws.{ends-exactly}
 use Rattle.channel.specs.Ending.{reasonsOf, afterUnit}
@@ -67,14 +71,25 @@ unfolding performOf
 unit-moves w m = sym (unit-spaces w (channel w m) (m .spaces))
 
 -- the registers of a funnelled transfer, as far as its accesses go
-abbrev funnel-reads : Operation → Bool → Set → List Place
-funnel-reads o flip s = bytes (readsOf o flip s)
+abbrev funnel-reads : Moves → Bool → Set → List Place
+funnel-reads m flip s = bytes (readsOf m flip s)
 
-abbrev funnel-writes : Operation → Bool → Set → List Write
-funnel-writes o flip s = writing 0 (bytes (writesOf o flip s)) (λ d. writtenOf o flip s (datumOf o flip s d))
+abbrev funnel-writes : Moves → Bool → Set → List Write
+funnel-writes m flip s = writing 0 (bytes (writesOf m flip s)) (λ d. writtenOf m flip s (datumOf m flip s d))
 
 abbrev sides : Address → Address → ℕ → Set
 sides a b n = record { a = a; b = b; count = n }
+
+-- both sides are used: the byte side steps twice, the word side once
+byte-side : (flip : Bool) (s : Set) → steppedSet Funnel flip s .a ≡ steppedOn Byte (steppedOn Byte (s .a))
+unfolding steppedSet
+byte-side true s = refl
+byte-side false s = refl
+
+word-side : (flip : Bool) (s : Set) → steppedSet Funnel flip s .b ≡ steppedOn Word (s .b)
+unfolding steppedSet
+word-side true s = refl
+word-side false s = refl
 
 twice : (k : ℕ) → suc k * 2 ≡ suc (suc (k * 2))
 twice k = omega arith
@@ -83,7 +98,7 @@ twice k = omega arith
 module _ (w : Which) (flip : Bool) (bytes-at words-at : Address) (n : ℕ) (fits : n ≤ 65536) where
   -- k of them are done; no chain of the channel is pending or under way
   pub record At (k : ℕ) (r : Held) : Type 0 where
-    pub op-is : operationOf (r .channel .mode) ≡ FunnelledTransfer
+    pub op-is : operationOf (r .channel .mode) ≡ moving Funnel
     pub flipped : isFlipped (r .channel .mode) ≡ flip
     pub a-is : r .channel .current .a ≡ steps Byte (k * 2) bytes-at
     pub b-is : r .channel .current .b ≡ steps Word k words-at
@@ -91,17 +106,17 @@ module _ (w : Which) (flip : Bool) (bytes-at words-at : Address) (n : ℕ) (fits
     pub pending : r .channel .pending ≡ false
     pub spared : spares w (r .chain) ≡ true
 
-  reads-by : (k : ℕ) (r : Held) → At k r → unit-reads (r .channel) ≡ funnel-reads FunnelledTransfer flip (sides (steps Byte (k * 2) bytes-at) (steps Word k words-at) (r .channel .current .count))
-  reads-by k r h = λ i. funnel-reads (h .op-is i) (h .flipped i) (sides (h .a-is i) (h .b-is i) (r .channel .current .count))
+  reads-by : (k : ℕ) (r : Held) → At k r → unit-reads (r .channel) ≡ funnel-reads Funnel flip (sides (steps Byte (k * 2) bytes-at) (steps Word k words-at) (r .channel .current .count))
+  reads-by k r h = λ i. funnel-reads (h .op-is i .moves) (h .flipped i) (sides (h .a-is i) (h .b-is i) (r .channel .current .count))
 
-  writes-by : (k : ℕ) (r : Held) → At k r → unit-writes (r .channel) ≡ funnel-writes FunnelledTransfer flip (sides (steps Byte (k * 2) bytes-at) (steps Word k words-at) (r .channel .current .count))
-  writes-by k r h = λ i. funnel-writes (h .op-is i) (h .flipped i) (sides (h .a-is i) (h .b-is i) (r .channel .current .count))
+  writes-by : (k : ℕ) (r : Held) → At k r → unit-writes (r .channel) ≡ funnel-writes Funnel flip (sides (steps Byte (k * 2) bytes-at) (steps Word k words-at) (r .channel .current .count))
+  writes-by k r h = λ i. funnel-writes (h .op-is i .moves) (h .flipped i) (sides (h .a-is i) (h .b-is i) (r .channel .current .count))
 
   -- it ends by TC alone, at the last unit
   ends-at : (k : ℕ) (m : Machine) → k < n → At k (held w m) → ends-of (made w m) ≡ record { mc = false; tc = eqb (suc k) n }
   unfolding worked movedOf compared
   ends-at k m b h = λ i. record {
-    mc = compared (h .op-is i) (datumAt (operationOf (channel w m .mode)) (isFlipped (channel w m .mode)) (channel w m .current) (m .spaces)) (channel w m .pattern) (channel w m .mask)
+    mc = compared (h .op-is i) (datumAt (operationOf (channel w m .mode) .moves) (isFlipped (channel w m .mode)) (channel w m .current) (m .spaces)) (channel w m .pattern) (channel w m .mask)
         (Rattle.mode.specs.Mode.matchControl (channel w m .mode)) (workOf (channel w m) .kept) .met;
     tc = (ap (λ (x : ℕ). terminal (fewer x)) (h .count) ∙ last-terminal n k fits b) i;
   }
@@ -125,12 +140,11 @@ module _ (w : Which) (flip : Bool) (bytes-at words-at : Address) (n : ℕ) (fits
       now : afterUnit w false (made w m) (channel w m) .channel .current ≡ made w m .set
       now = current-after w (made w m) (channel w m) e
 
-      -- both sides are used: the byte side steps twice, the word side once
       a-on : made w m .set .a ≡ steppedOn Byte (steppedOn Byte (channel w m .current .a))
-      a-on = ap (λ (o : Operation). steppedSet o (isFlipped (channel w m .mode)) (channel w m .current) .a) (h .op-is)
+      a-on = ap (λ (o : Operation). steppedSet (o .moves) (isFlipped (channel w m .mode)) (channel w m .current) .a) (h .op-is) ∙ byte-side (isFlipped (channel w m .mode)) (channel w m .current)
 
       b-on : made w m .set .b ≡ steppedOn Word (channel w m .current .b)
-      b-on = ap (λ (o : Operation). steppedSet o (isFlipped (channel w m .mode)) (channel w m .current) .b) (h .op-is)
+      b-on = ap (λ (o : Operation). steppedSet (o .moves) (isFlipped (channel w m .mode)) (channel w m .current) .b) (h .op-is) ∙ word-side (isFlipped (channel w m .mode)) (channel w m .current)
 
       spared′ : spares w (control-after w m .chain) ≡ true
       spared′ =
@@ -189,8 +203,8 @@ module _ (w : Which) (flip : Bool) (bytes-at words-at : Address) (n : ℕ) (fits
           (steady k m (let s = small in let d = subst (λ (b : Bool). bump b k ≤ op.after (seen w) (bump (owns w (next-choice m)) k) i (step m)) e g in omega arith) h .rest e)
 
   module _ (src : ℕ → List Place) (dst : ℕ → List Write)
-      (reads : (k c : ℕ) → funnel-reads FunnelledTransfer flip (sides (steps Byte (k * 2) bytes-at) (steps Word k words-at) c) ≡ src k)
-      (writes : (k c : ℕ) → funnel-writes FunnelledTransfer flip (sides (steps Byte (k * 2) bytes-at) (steps Word k words-at) c) ≡ dst k) where
+      (reads : (k c : ℕ) → funnel-reads Funnel flip (sides (steps Byte (k * 2) bytes-at) (steps Word k words-at) c) ≡ src k)
+      (writes : (k c : ℕ) → funnel-writes Funnel flip (sides (steps Byte (k * 2) bytes-at) (steps Word k words-at) c) ≡ dst k) where
     carrying : (m : Machine) → Away w (Both n src dst) m → Carrying (seen w) prog n src dst At m
     carrying m u k b h = record {
       steady = steady k m b h;
@@ -218,16 +232,16 @@ module _ (b x : Address) (hb : Words b) (hx : Words x) where
   low-is : (k : ℕ) → after (placeOf (steps Word k x)) ≡ low (line Word x) k
   low-is k = ap after (place-is Word x hx k) ∙ after-at (line Word x .tag) (pace (line Word x .start) (line Word x .by) k)
 
-  word-reads-is : (k c : ℕ) → funnel-reads FunnelledTransfer true (sides (steps Byte (k * 2) b) (steps Word k x) c) ≡ word-reads (line Word x) k
+  word-reads-is : (k c : ℕ) → funnel-reads Funnel true (sides (steps Byte (k * 2) b) (steps Word k x) c) ≡ word-reads (line Word x) k
   word-reads-is k c = λ i. place-is Word x hx k i ∷ low-is k i ∷ []
 
-  byte-reads-is : (k c : ℕ) → funnel-reads FunnelledTransfer false (sides (steps Byte (k * 2) b) (steps Word k x) c) ≡ byte-reads (line Byte b) k
+  byte-reads-is : (k c : ℕ) → funnel-reads Funnel false (sides (steps Byte (k * 2) b) (steps Word k x) c) ≡ byte-reads (line Byte b) k
   byte-reads-is k c = λ i. place-is Byte b hb (k * 2) i ∷ place-is Byte b hb (suc (k * 2)) i ∷ []
 
-  byte-writes-is : (k c : ℕ) → funnel-writes FunnelledTransfer true (sides (steps Byte (k * 2) b) (steps Word k x) c) ≡ byte-writes (highFirst (x .upper)) (line Byte b) k
+  byte-writes-is : (k c : ℕ) → funnel-writes Funnel true (sides (steps Byte (k * 2) b) (steps Word k x) c) ≡ byte-writes (highFirst (x .upper)) (line Byte b) k
   byte-writes-is k c = λ i. to-bytes (stands Word x hx k .order i) (place-is Byte b hb (k * 2) i) (place-is Byte b hb (suc (k * 2)) i)
 
-  word-writes-is : (k c : ℕ) → funnel-writes FunnelledTransfer false (sides (steps Byte (k * 2) b) (steps Word k x) c) ≡ word-writes (highFirst (x .upper)) (line Word x) k
+  word-writes-is : (k c : ℕ) → funnel-writes Funnel false (sides (steps Byte (k * 2) b) (steps Word k x) c) ≡ word-writes (highFirst (x .upper)) (line Word x) k
   word-writes-is k c = λ i. to-word (stands Word x hx k .order i) (place-is Word x hx k i) (low-is k i)
 
 -- ---- the demand

@@ -5,11 +5,11 @@ use mathlib.Core.List.{List, [], _∷_}
 use Prim.Native.Nat.{ℕ, _+_, _*_, _/_, _%_, _≤_, _<_}
 use native.Mathlib.Omega.{arith}
 use lib.Dec.{ltb, ltb→lt}
-use lib.ListN.{getD}
+use lib.ListN.{length, getD}
 use Rattle.facts.specs.Below.{below}
 use Rattle.facts.specs.Look.{look}
 use Rattle.space.specs.declared.Width.the-variants.{Byte, Word}
-use Rattle.space.specs.Space.{get}
+use Rattle.space.specs.Space.{Space, inMemory, inIo, listOf, get}
 use Rattle.space.specs.Laws.{SameSize, Bytes, bytes-of-lists, place-inj}
 use Rattle.laws.specs.Machine.{iter}
 use Rattle.laws.specs.Area.{Apart-inside, high, low}
@@ -21,7 +21,8 @@ use Rattle.address.specs.Laws.{Words}
 use Rattle.mode.specs.Mode.{operationOf, requestModeOf}
 use Rattle.reasons.specs.Reasons.{some}
 use Rattle.comparing.specs.Comparison.{comparison}
-use Rattle.unit.specs.Unit.{oddWord, unitRefusal, datumAt, storedAt, compared, steppedSet, movedOf, worked}
+use Rattle.accesses.specs.Accesses.{datumAt, storedAt, steppedSet}
+use Rattle.unit.specs.Unit.{oddWord, unitRefusal, compared, movedOf, worked}
 use Rattle.channel.specs.Candidate.{isCandidate}
 use Rattle.request.specs.Request.{requests}
 use Rattle.channel.specs.Ending.{movedBy, unended, afterUnit}
@@ -87,7 +88,11 @@ small a = ltb (getD bench a 255) 256
 
 bytes : Bytes (there .spaces)
 unfolding small
-bytes = bytes-of-lists (there .spaces) (λ a h. ltb→lt (getD bench a 255) 256 (below small 20 tt a h)) (λ a h. let x : a < 0 = h in absurd (omega arith))
+bytes = bytes-of-lists (there .spaces) by-space
+  where
+    by-space : (k : Space) (a : ℕ) → a < length (listOf k (there .spaces)) → getD (listOf k (there .spaces)) a 255 < 256
+    by-space inMemory a h = ltb→lt (getD bench a 255) 256 (below small 20 tt a h)
+    by-space inIo a h = let x : a < 0 = h in absurd (omega arith)
 
 fits : 3 ≤ 65536
 fits = omega arith
@@ -114,7 +119,11 @@ merges = record {
 
 same-size : SameSize (there .spaces) (back .spaces)
 unfolding working stepOf performOf choice choiceOf intentOf turn isCandidate requests interleaves unitRefusal oddWord worked datumAt storedAt movedOf compared comparison steppedSet placeOf steppedOn directionOf operationOf requestModeOf look unitOf at with afterUnit movedBy some unended
-same-size = record { memory = refl; io = refl }
+same-size = record { at = by-space }
+  where
+    by-space : (k : Space) → length (listOf k (there .spaces)) ≡ length (listOf k (back .spaces))
+    by-space inMemory = refl
+    by-space inIo = refl
 
 pub funnel-witness : (k : ℕ) → k < 3
     → (get (step (iter step 2 back) .spaces) (high (line Word (register 14)) k) ≡ get (there .spaces) (high (line Word (register 0)) k))

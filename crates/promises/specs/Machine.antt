@@ -6,10 +6,12 @@ use mathlib.Core.List.{List}
 use Prim.Native.Nat.{ℕ}
 use Rattle.space.specs.declared.Place.{Place}
 use Rattle.space.specs.Space.{Spaces}
-use Rattle.laws.specs.Local.{Prog, Write, gets, exec}
+use Rattle.space.specs.Bytes.{gets}
+use Rattle.laws.specs.Local.{Prog, Write, exec}
 use Rattle.port.specs.declared.Which.{Which}
 use Rattle.mode.specs.Mode.{operationOf, isFlipped}
-use Rattle.unit.specs.Unit.{bytes, readsOf, datumOf, datumAt, movedOf, worked}
+use Rattle.accesses.specs.Accesses.{bytes, readsOf, datumOf, datumAt}
+use Rattle.unit.specs.Unit.{movedOf, worked}
 use Rattle.unit.specs.Laws.{writesBy, writes-exactly}
 use Rattle.channel.specs.declared.Channel.{Channel}
 use Rattle.channel.specs.Ending.{afterUnit}
@@ -47,13 +49,13 @@ channel w m = at w (m .controller)
 -- ---- a unit alone
 
 abbrev pub unit-reads : Channel → List Place
-unit-reads c = bytes (readsOf (operationOf (c .mode)) (isFlipped (c .mode)) (c .current))
+unit-reads c = bytes (readsOf (operationOf (c .mode) .moves) (isFlipped (c .mode)) (c .current))
 
 abbrev pub datum : Channel → List ℕ → ℕ
-datum c d = datumOf (operationOf (c .mode)) (isFlipped (c .mode)) (c .current) d
+datum c d = datumOf (operationOf (c .mode) .moves) (isFlipped (c .mode)) (c .current) d
 
 abbrev pub unit-writes : Channel → List Write
-unit-writes c = writesBy (operationOf (c .mode)) (isFlipped (c .mode)) (c .current)
+unit-writes c = writesBy (operationOf (c .mode) .moves) (isFlipped (c .mode)) (c .current)
 
 abbrev pub unit : Which → Prog Channel
 unit w = record {
@@ -70,4 +72,4 @@ unit-channel w c z = refl
 -- .. and the same spaces
 pub unit-spaces : (w : Which) (c : Channel) (z : Spaces) → exec (unit w) c z .spaces ≡ worked (workOf c) z .spaces
 unfolding worked datumAt
-unit-spaces w c z = writes-exactly (operationOf (c .mode)) (isFlipped (c .mode)) (c .current) (gets z (unit-reads c)) z
+unit-spaces w c z = writes-exactly (operationOf (c .mode) .moves) (isFlipped (c .mode)) (c .current) (gets z (unit-reads c)) z

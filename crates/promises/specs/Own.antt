@@ -5,8 +5,9 @@ use Prim.Native.Nat.{ℕ}
 use Rattle.space.specs.declared.Place.{Place}
 use Rattle.space.specs.declared.Width.the-variants.{Word}
 use Rattle.space.specs.Space.{Spaces, get, valueIn}
+use Rattle.space.specs.Bytes.{gets}
 use Rattle.space.specs.Laws.{SameSize}
-use Rattle.laws.specs.Local.{In, Agree, gets, places, puts-keeps}
+use Rattle.laws.specs.Local.{In, Agree, places, puts-keeps}
 use Rattle.port.specs.declared.Which.{Which}
 use Rattle.port.specs.declared.Which.the-variants.{One, Two}
 use Rattle.mode.specs.declared.RequestMode.{RequestMode}

@@ -1,14 +1,11 @@
 -- An address register stepped k times, as the line of places of the laws. Assumes nothing.
 use mathlib.Core.Path.{_≡_, refl, sym, ap, _∙_}
-use mathlib.Core.Bool.{Bool, true, false}
-use Prim.Native.Nat.{ℕ, zero, suc, _+_, _-_, _/_, _%_, _≤_, _<_}
+use Prim.Native.Nat.{ℕ, zero, suc, _+_, _/_, _%_}
 use native.Mathlib.Omega.{arith}
 use Rattle.space.specs.declared.Width.{Width}
-use Rattle.space.specs.declared.Width.the-variants.{Byte, Word}
-use Rattle.space.specs.declared.Direction.{Direction}
-use Rattle.space.specs.declared.Direction.the-variants.{Up, Down, Hold}
 use Rattle.space.specs.Space.{placeAt}
 use Rattle.stepping.specs.Stepping.{stride, moved}
+use Rattle.stepping.specs.Laws.{stride-le, rise, moved-rises}
 use Rattle.laws.specs.Pace.{pace, pace-start, pace-step}
 use Rattle.laws.specs.Area.{Line}
 use Rattle.funnel.specs.Funnel.{highFirst}
@@ -18,34 +15,8 @@ use Rattle.address.specs.Address.{number, withNumber, placeOf, steppedOn}
 use Rattle.address.specs.Laws.{Words, number-lt, memory-with, direction-with, words-with, number-stepped}
 use Rattle.promises.specs.Demand2b.{steps}
 
--- memory bytes by 1, words and all I/O by 2; down is a step up of what is left of a whole turn
-abbrev pub strideOf : Bool → Width → ℕ
-strideOf true Byte = 1
-strideOf true Word = 2
-strideOf false d = 2
-
-abbrev pub onward : Direction → ℕ → ℕ
-onward Up s = s
-onward Down s = 16777216 - s
-onward Hold s = 0
-
 abbrev pub line : Width → Address → Line
-line d x = record { tag = isMemory (x .upper); start = number x; by = onward (directionOf (x .upper)) (strideOf (isMemory (x .upper)) d) }
-
-stride-is : (t : Bool) (d : Width) (n : ℕ) → stride (placeAt t n) d ≡ strideOf t d
-stride-is true Byte n = refl
-stride-is true Word n = refl
-stride-is false d n = refl
-
-stride-le : (t : Bool) (d : Width) → strideOf t d ≤ 2
-stride-le true Byte = omega arith
-stride-le true Word = omega arith
-stride-le false d = omega arith
-
-moved-is : (r : Direction) (s x : ℕ) → s ≤ 2 → x < 16777216 → moved r s x ≡ (x + onward r s) % 16777216
-moved-is Up s x h b = refl
-moved-is Down s x h b = omega arith
-moved-is Hold s x h b = omega arith
+line d x = record { tag = isMemory (x .upper); start = number x; by = rise 16777216 (directionOf (x .upper)) (stride (isMemory (x .upper)) d) }
 
 upper-with : (a : Address) (n : ℕ) → highFirst (withNumber a n .upper) ≡ highFirst (a .upper)
 upper-with a n = let e : withNumber a n .upper / 8 % 2 ≡ a .upper / 8 % 2 = omega arith in rw e
@@ -59,12 +30,10 @@ pub record Stands (d : Width) (x : Address) (k : ℕ) : Type 0 where
   pub at : number (steps d k x) ≡ pace (number x) (line d x .by) k
 
 one-step : (d : Width) (x : Address) (k : ℕ) → Stands d x k → number (steppedOn d (steps d k x)) ≡ pace (number x) (line d x .by) (suc k)
-unfolding placeOf
 one-step d x k h =
     number-stepped d (steps d k x) (h .words)
-    ∙ (λ i. moved (h .direction i) (stride (placeAt (h .memory i) (number (steps d k x))) d) (number (steps d k x)))
-    ∙ ap (λ (s : ℕ). moved (directionOf (x .upper)) s (number (steps d k x))) (stride-is (isMemory (x .upper)) d (number (steps d k x)))
-    ∙ moved-is (directionOf (x .upper)) (strideOf (isMemory (x .upper)) d) (number (steps d k x)) (stride-le (isMemory (x .upper)) d) (number-lt (steps d k x) (h .words))
+    ∙ (λ i. moved 16777216 (h .direction i) (stride (h .memory i) d) (number (steps d k x)))
+    ∙ moved-rises 16777216 (directionOf (x .upper)) (stride (isMemory (x .upper)) d) (number (steps d k x)) (omega (arith, stride-le (isMemory (x .upper)) d)) (number-lt (steps d k x) (h .words))
     ∙ ap (λ (n : ℕ). (n + line d x .by) % 16777216) (h .at)
     ∙ pace-step (number x) (line d x .by) k
 

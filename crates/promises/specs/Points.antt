@@ -6,17 +6,17 @@ use mathlib.Core.List.{List}
 use Prim.Native.Nat.{ℕ, _+_, _-_}
 use Rattle.facts.specs.Look.{look}
 use Rattle.space.specs.declared.Width.the-variants.{Byte, Word}
-use Rattle.space.specs.declared.Direction.the-variants.{Up, Down}
-use Rattle.stepping.specs.Stepping.{steppedBy}
-use Rattle.space.specs.Laws.{memoryAt, ioAt}
 use Rattle.comparing.specs.Comparison.{comparison}
 use Rattle.funnel.specs.Funnel.{highFirst, joined}
+use Rattle.tag.specs.Tag.{directionOf}
 use Rattle.address.specs.declared.Set.{Set}
+use Rattle.address.specs.Address.{steppedOn}
 use Rattle.mode.specs.Mode.{operationOf}
 use Rattle.reload.specs.declared.Stage.the-variants.{Reload}
 use Rattle.reload.specs.Reload.{wordsOf}
 use Rattle.unit.specs.declared.Work.{Work}
-use Rattle.unit.specs.Unit.{compared, steppedSet, movedOf}
+use Rattle.accesses.specs.Accesses.{steppedSet}
+use Rattle.unit.specs.Unit.{compared, movedOf}
 use Rattle.command.specs.Command.{commandOf}
 use Rattle.port.specs.declared.Which.the-variants.{One}
 use Rattle.writable.specs.Writable.{writePort}
@@ -61,9 +61,9 @@ pub record Points : Type 0 where
   pub p2 : TakesWords 0x03FF 18
   pub p3 : TakesWords 0xFC00 1
   -- Memory byte FFFFFFh up gives 000000h; memory word 000000h down gives FFFFFEh; I/O byte 000010h up gives 000012h.
-  pub p4 : steppedBy Up Byte (memoryAt 0xFFFFFF) ≡ memoryAt 0
-  pub p5 : steppedBy Down Word (memoryAt 0) ≡ memoryAt 0xFFFFFE
-  pub p6 : steppedBy Up Byte (ioAt 0x10) ≡ ioAt 0x12
+  pub p4 : steppedOn Byte (record { upper = 0xFF40; lower = 0xFFFF }) ≡ record { upper = 0x0040; lower = 0x0000 }
+  pub p5 : steppedOn Word (record { upper = 0x0048; lower = 0x0000 }) ≡ record { upper = 0xFF48; lower = 0xFFFE }
+  pub p6 : steppedOn Byte (record { upper = 0x0000; lower = 0x0010 }) ≡ record { upper = 0x0000; lower = 0x0012 }
   -- Count 0000 becomes FFFFh without TC; count 1 becomes 0 with TC: by any unit.
   pub p7 : (w : Work) (datum : ℕ) → (movedOf (counted 0 w) datum .set .count ≡ 0xFFFF) × (movedOf (counted 0 w) datum .tc ≡ false)
   pub p8 : (w : Work) (datum : ℕ) → (movedOf (counted 1 w) datum .set .count ≡ 0) × (movedOf (counted 1 w) datum .tc ≡ true)
@@ -101,7 +101,7 @@ unfolding commanded commandOf look
 set-none u e = obeyed 0x20 u e ∙ ap takes (same-one u)
 
 pub points : Points
-unfolding wordsOf movedOf steppedSet compared comparison operationOf look
+unfolding wordsOf steppedOn directionOf movedOf steppedSet compared comparison operationOf look
 points = record {
   p1 = words-taken 0x0282 6 refl;
   p2 = words-taken 0x03FF 18 refl;

@@ -5,7 +5,7 @@ use mathlib.Core.Bool.{Bool, true, false, not, cond, _&&_, _||_}
 use Prim.Native.Nat.{ℕ, _%_}
 use lib.Dec.{eqb}
 use Rattle.space.specs.declared.Width.{Width}
-use Rattle.space.specs.declared.Width.the-variants.{Byte}
+use Rattle.space.specs.declared.Width.the-variants.{Byte, Word}
 use Rattle.space.specs.Space.{Spaces}
 use Rattle.port.specs.declared.Which.{Which}
 use Rattle.address.specs.declared.Address.{Address}
@@ -15,16 +15,17 @@ use Rattle.address.specs.Address.{steppedOn, fetchedOn}
 use Rattle.address.specs.Laws.{kept-with, chain-chain, chain-with}
 use Rattle.mode.specs.declared.Mode.{Mode}
 use Rattle.reasons.specs.declared.Reasons.{Reasons}
-use Rattle.operation.specs.declared.Operation.{Operation}
+use Rattle.operation.specs.declared.Moves.{Moves}
+use Rattle.operation.specs.declared.Moves.the-variants.{Transfer, Search, Funnel}
 use Rattle.mode.specs.declared.RequestMode.{RequestMode}
 use Rattle.mode.specs.declared.RequestMode.the-variants.{Single, DemandHold, DemandRelease, DemandInterleave}
 use Rattle.mode.specs.Mode.{operationOf, isFlipped, requestModeOf, isRequested, isMasked, interruptOf}
-use Rattle.operation.specs.Operation.{funnels, widthOfA, widthOfB}
 use Rattle.reasons.specs.Reasons.{enabledFor}
 use Rattle.reload.specs.declared.Entry.{Entry}
 use Rattle.reload.specs.Reload.{entryOf, restOf, isPair}
 use Rattle.unit.specs.declared.Moved.{Moved}
-use Rattle.unit.specs.Unit.{usesA, usesB, nextA, nextB, steppedSet, movedOf, worked}
+use Rattle.accesses.specs.Accesses.{steppedSet}
+use Rattle.unit.specs.Unit.{movedOf, worked}
 use Rattle.channel.specs.declared.Channel.{Channel}
 use Rattle.request.specs.declared.Line.{Line}
 use Rattle.channel.specs.declared.Ended.{Ended}
@@ -146,25 +147,18 @@ stepped-tidy : (w : Width) (a : Address) → TidyTag a → TidyTag (steppedOn w 
 unfolding steppedOn
 stepped-tidy w a h = kept-with a _ h
 
-next-a-tidy : (uses funnel : Bool) (w : Width) (a : Address) → TidyTag a → TidyTag (nextA uses funnel w a)
-next-a-tidy true true w a h = stepped-tidy Byte (steppedOn Byte a) (stepped-tidy Byte a h)
-next-a-tidy true false w a h = stepped-tidy w a h
-next-a-tidy false funnel w a h = h
-
-next-b-tidy : (uses : Bool) (w : Width) (b : Address) → TidyTag b → TidyTag (nextB uses w b)
-next-b-tidy true w b h = stepped-tidy w b h
-next-b-tidy false w b h = h
-
-set-tidy : (o : Operation) (flip : Bool) (s : Set) → TidySet s → TidySet (steppedSet o flip s)
+set-tidy : (m : Moves) (flip : Bool) (s : Set) → TidySet s → TidySet (steppedSet m flip s)
 unfolding steppedSet
-set-tidy o flip s h = record {
-  a = next-a-tidy (usesA o flip) (funnels o) (widthOfA o) (s .a) (h .a);
-  b = next-b-tidy (usesB o flip) (widthOfB o) (s .b) (h .b);
-}
+set-tidy (Transfer w) true s h = record { a = stepped-tidy w (s .a) (h .a); b = stepped-tidy w (s .b) (h .b) }
+set-tidy (Transfer w) false s h = record { a = stepped-tidy w (s .a) (h .a); b = stepped-tidy w (s .b) (h .b) }
+set-tidy (Search w) true s h = record { a = h .a; b = stepped-tidy w (s .b) (h .b) }
+set-tidy (Search w) false s h = record { a = stepped-tidy w (s .a) (h .a); b = h .b }
+set-tidy Funnel true s h = record { a = stepped-tidy Byte (steppedOn Byte (s .a)) (stepped-tidy Byte (s .a) (h .a)); b = stepped-tidy Word (s .b) (h .b) }
+set-tidy Funnel false s h = record { a = stepped-tidy Byte (steppedOn Byte (s .a)) (stepped-tidy Byte (s .a) (h .a)); b = stepped-tidy Word (s .b) (h .b) }
 
 pub moved-tidy : (c : Channel) (z : Spaces) → Tidy c → Tidy (movedBy (worked (workOf c) z .moved) c)
 unfolding movedBy worked movedOf
-moved-tidy c z h = current-anew _ c (set-tidy (operationOf (c .mode)) (isFlipped (c .mode)) (c .current) (h .current-tags)) h
+moved-tidy c z h = current-anew _ c (set-tidy (operationOf (c .mode) .moves) (isFlipped (c .mode)) (c .current) (h .current-tags)) h
 
 pub moved-clear : (m : Moved) (c : Channel) → Clear c → Clear (movedBy m c)
 unfolding movedBy

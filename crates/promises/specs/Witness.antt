@@ -22,7 +22,8 @@ use Rattle.tag.specs.Tag.{directionOf}
 use Rattle.address.specs.Address.{placeOf, steppedOn}
 use Rattle.mode.specs.Mode.{operationOf, requestModeOf}
 use Rattle.reasons.specs.Reasons.{some}
-use Rattle.unit.specs.Unit.{oddWord, unitRefusal, datumAt, storedAt, compared, steppedSet, movedOf, worked}
+use Rattle.accesses.specs.Accesses.{datumAt, storedAt, steppedSet}
+use Rattle.unit.specs.Unit.{oddWord, unitRefusal, compared, movedOf, worked}
 use Rattle.channel.specs.declared.Channel.{Channel}
 use Rattle.channel.specs.Candidate.{isCandidate}
 use Rattle.request.specs.Request.{requests}

@@ -4,14 +4,16 @@ use Prim.Native.Nat.{ℕ, _+_, _*_, _/_, _%_}
 use mathlib.Core.Bool.{Bool, true, false}
 use mathlib.Core.List.{List}
 use lib.ListN.{getD, set}
-use Rattle.space.specs.declared.MemoryAddress.{MemoryAddress}
-use Rattle.space.specs.declared.IoAddress.{IoAddress}
 use Rattle.space.specs.declared.Place.{Place}
 use Rattle.space.specs.declared.Place.the-variants.{Memory, Io}
 use Rattle.space.specs.declared.Width.{Width}
 use Rattle.space.specs.declared.Width.the-variants.{Byte, Word}
 
 -- Two byte spaces, memory and I/O, each of any length.
+pub data Space : Type 0 where
+  inMemory : Space
+  inIo : Space
+
 pub record Spaces : Type 0 where
   pub memory : List ℕ
   pub io : List ℕ
@@ -19,24 +21,39 @@ pub record Spaces : Type 0 where
 abbrev pub spaces : List ℕ → List ℕ → Spaces
 spaces m i = record { memory = m; io = i }
 
--- The place of an address: memory or I/O.
-abbrev pub placeAt : Bool → ℕ → Place
-placeAt true a = Memory (record { 0 = a })
-placeAt false a = Io (record { 0 = a })
+-- The bytes of a space, and the spaces with other bytes in one of them.
+abbrev pub listOf : Space → Spaces → List ℕ
+listOf inMemory s = s .memory
+listOf inIo s = s .io
+
+abbrev pub withList : Space → List ℕ → Spaces → Spaces
+withList inMemory l s = record { memory = l; io = s .io }
+withList inIo l s = record { memory = s .memory; io = l }
+
+-- A place is an address of a space.
+abbrev pub spaceOf : Place → Space
+spaceOf (Memory a) = inMemory
+spaceOf (Io a) = inIo
 
 abbrev pub addressOf : Place → ℕ
 addressOf (Memory a) = a .0
 addressOf (Io a) = a .0
 
+abbrev pub placeIn : Space → ℕ → Place
+placeIn inMemory a = Memory (record { 0 = a })
+placeIn inIo a = Io (record { 0 = a })
+
+abbrev pub placeAt : Bool → ℕ → Place
+placeAt true a = placeIn inMemory a
+placeAt false a = placeIn inIo a
+
 -- A byte beyond a space's end reads FFh ..
 abbrev pub get : Spaces → Place → ℕ
-get s (Memory a) = getD (s .memory) (a .0) 255
-get s (Io a) = getD (s .io) (a .0) 255
+get s p = getD (listOf (spaceOf p) s) (addressOf p) 255
 
 -- .. and a write there is lost: `set` leaves the list as it is past its end.
 abbrev pub put : Spaces → Place → ℕ → Spaces
-put s (Memory a) v = record { memory = set (s .memory) (a .0) v; io = s .io }
-put s (Io a) v = record { memory = s .memory; io = set (s .io) (a .0) v }
+put s p v = withList (spaceOf p) (set (listOf (spaceOf p) s) (addressOf p) v) s
 
 -- A byte, or a word at even address E with byte E as its high half, in one space.
 abbrev pub valueIn : Width → List ℕ → ℕ → ℕ
@@ -49,9 +66,7 @@ withValue Word s a v = set (set s a (v / 256)) (a + 1) (v % 256)
 
 -- The same at a place.
 abbrev pub readAt : Width → Spaces → Place → ℕ
-readAt w s (Memory a) = valueIn w (s .memory) (a .0)
-readAt w s (Io a) = valueIn w (s .io) (a .0)
+readAt w s p = valueIn w (listOf (spaceOf p) s) (addressOf p)
 
 abbrev pub written : Width → Spaces → Place → ℕ → Spaces
-written w s (Memory a) v = record { memory = withValue w (s .memory) (a .0) v; io = s .io }
-written w s (Io a) v = record { memory = s .memory; io = withValue w (s .io) (a .0) v }
+written w s p v = withList (spaceOf p) (withValue w (listOf (spaceOf p) s) (addressOf p) v) s

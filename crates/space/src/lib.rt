@@ -1,7 +1,7 @@
 // The two lent byte spaces, and their addresses, kept apart by type.
 ghost use mathlib.Core.Path.{_≡_};
 ghost use lib.ListN.{getD, set};
-ghost use Rattle.space.specs.Space.{spaces, placeAt, addressOf, valueIn, withValue, readAt, written};
+ghost use Rattle.space.specs.Space.{spaces, placeAt, valueIn, withValue, readAt, written};
 
 // A memory address never stands for an I/O address.
 pub struct MemoryAddress(pub u32);
@@ -100,16 +100,5 @@ pub fn write(memory: &mut [u8], io: &mut [u8], p: Place, w: Width, v: u16)
     match p {
         Place::Memory(a) => put_value(memory, a.0, w, v),
         Place::Io(a) => put_value(io, a.0, w, v),
-    }
-}
-
-impl Place {
-    pub fn address(self) -> u32
-        ensures { λ r. ⌜ r ≡ addressOf self ⌝ }
-    {
-        match self {
-            Place::Memory(a) => a.0,
-            Place::Io(a) => a.0,
-        }
     }
 }

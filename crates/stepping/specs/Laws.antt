@@ -1,11 +1,32 @@
--- A step leaves an address within 24 bits. Assumes nothing.
-use Prim.Native.Nat.{ℕ, _<_}
+-- A step leaves an address below its modulus, and is a rise: down by the rest of a whole turn. Assumes nothing.
+use mathlib.Core.Path.{_≡_, refl, sym, ap, _∙_}
+use mathlib.Core.Bool.{Bool, true, false}
+use Prim.Native.Nat.{ℕ, _+_, _-_, _%_, _≤_, _<_}
+use native.Mathlib.Nat.{mod-lt, mod-eq-of-lt}
 use native.Mathlib.Omega.{arith}
+use Rattle.space.specs.declared.Width.{Width}
+use Rattle.space.specs.declared.Width.the-variants.{Byte, Word}
 use Rattle.space.specs.declared.Direction.{Direction}
 use Rattle.space.specs.declared.Direction.the-variants.{Up, Down, Hold}
-use Rattle.stepping.specs.Stepping.{moved}
+use Rattle.stepping.specs.Stepping.{moved, stride}
 
-pub moved-lt : (d : Direction) (by a : ℕ) → a < 16777216 → moved d by a < 16777216
-moved-lt Up by a h = omega arith
-moved-lt Down by a h = omega arith
-moved-lt Hold by a h = h
+pub stride-le : (memory : Bool) (w : Width) → stride memory w ≤ 2
+stride-le true Byte = omega arith
+stride-le false Byte = omega arith
+stride-le memory Word = omega arith
+
+module _ (modulus : ℕ) where
+  pub moved-lt : (d : Direction) (by a : ℕ) → a < modulus → moved modulus d by a < modulus
+  moved-lt Up by a h = mod-lt (a + by) (omega arith)
+  moved-lt Down by a h = mod-lt (a + modulus - by) (omega arith)
+  moved-lt Hold by a h = h
+
+  abbrev pub rise : Direction → ℕ → ℕ
+  rise Up by = by
+  rise Down by = modulus - by
+  rise Hold by = 0
+
+  pub moved-rises : (d : Direction) (by a : ℕ) → by ≤ modulus → a < modulus → moved modulus d by a ≡ (a + rise d by) % modulus
+  moved-rises Up by a h b = refl
+  moved-rises Down by a h b = let e : a + modulus - by ≡ a + (modulus - by) = omega arith in ap (λ (n : ℕ). n % modulus) e
+  moved-rises Hold by a h b = let e : a + 0 ≡ a = omega arith in sym (ap (λ (n : ℕ). n % modulus) e ∙ mod-eq-of-lt b)

@@ -13,6 +13,7 @@ keptTag w = w / 64 * 64 + w / 2 % 16 * 2
 abbrev pub keptChain : ℕ → ℕ
 keptChain w = w / 256 * 256 + w / 2 % 4 * 2
 
+-- Normal (1) or System (0), for request E8.
 abbrev pub isNormal : ℕ → Bool
 isNormal w = eqb (w / 128 % 2) 1
 
@@ -27,7 +28,7 @@ direction field = cond (eqb field 0) Up (cond (eqb field 1) Down Hold)
 unfoldable pub directionOf : ℕ → Direction
 directionOf w = direction (w / 8 % 4)
 
--- Waits 0, 1, 2, 4.
+-- Waits 0, 1, 2, 4; for request E7.
 abbrev pub waits : ℕ → ℕ
 waits field = cond (eqb field 3) 4 field
 

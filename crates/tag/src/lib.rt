@@ -23,6 +23,7 @@ pub fn is_memory(w: u16) -> bool
     (w >> 6) & 1 == 1
 }
 
+// Normal or System, for request E8.
 pub fn is_normal(w: u16) -> bool
     ensures { λ r. ⌜ r ≡ isNormal w ⌝ }
 {
@@ -41,7 +42,7 @@ pub fn direction_of(w: u16) -> Direction
     }
 }
 
-// The programmed waits: 0, 1, 2 or 4.
+// The programmed waits: 0, 1, 2 or 4; for request E7.
 pub fn waits_of(w: u16) -> u16
     ensures { λ r. ⌜ r ≡ waitsOf w ⌝ }
 {

@@ -1,47 +1,29 @@
--- A datum of either width is the value of its bytes, and is written as its bytes; a unit writes its accesses and nothing else. Assumes
--- nothing.
-use mathlib.Core.Path.{_≡_, refl, subst}
+-- A unit writes its accesses and nothing else, and leaves both spaces as long as they were. Assumes nothing.
+use mathlib.Core.Path.{_≡_}
 use mathlib.Core.Bool.{Bool}
-use mathlib.Core.List.{List, []}
+use mathlib.Core.List.{List}
 use Prim.Native.Nat.{ℕ}
-use Rattle.space.specs.declared.Width.{Width}
-use Rattle.space.specs.declared.Width.the-variants.{Byte, Word}
-use Rattle.space.specs.declared.Place.{Place}
-use Rattle.space.specs.declared.Place.the-variants.{Memory, Io}
-use Rattle.space.specs.Space.{Spaces, readAt, written}
-use Rattle.space.specs.Laws.{SameSize}
-use Rattle.laws.specs.Local.{Write, gets, puts, stores, writing, puts-writing, bytesAt, size-puts}
-use Rattle.operation.specs.declared.Operation.{Operation}
+use Rattle.space.specs.Space.{Spaces}
+use Rattle.space.specs.Laws.{SameSize, size-stores}
+use Rattle.laws.specs.Local.{Write, puts, writing, puts-writing}
+use Rattle.operation.specs.declared.Moves.{Moves}
 use Rattle.address.specs.declared.Set.{Set}
 use Rattle.mode.specs.Mode.{operationOf, isFlipped}
+use Rattle.accesses.specs.Accesses.{bytes, writesOf, datumOf, writtenOf, datumAt, storedAt}
 use Rattle.unit.specs.declared.Work.{Work}
-use Rattle.unit.specs.Unit.{bytes, readsOf, writesOf, valueOf, bytesOf, datumOf, writtenOf, datumAt, storedAt, worked}
-
-pub value-read : (w : Width) (z : Spaces) (p : Place) → valueOf w (gets z (bytesAt w p [])) ≡ readAt w z p
-value-read Byte z (Memory a) = refl
-value-read Byte z (Io a) = refl
-value-read Word z (Memory a) = refl
-value-read Word z (Io a) = refl
-
-pub value-written : (w : Width) (z : Spaces) (p : Place) (v : ℕ) → stores 0 (bytesAt w p []) (bytesOf w v) z ≡ written w z p v
-value-written Byte z (Memory a) v = refl
-value-written Byte z (Io a) v = refl
-value-written Word z (Memory a) v = refl
-value-written Word z (Io a) v = refl
+use Rattle.unit.specs.Unit.{worked}
 
 -- the accesses by which a unit writes: places, and what is written there of the data that it read
-abbrev pub writesBy : Operation → Bool → Set → List Write
-writesBy o flip s = writing 0 (bytes (writesOf o flip s)) (λ d. writtenOf o flip s (datumOf o flip s d))
+abbrev pub writesBy : Moves → Bool → Set → List Write
+writesBy m flip s = writing 0 (bytes (writesOf m flip s)) (λ d. writtenOf m flip s (datumOf m flip s d))
 
-pub writes-exactly : (o : Operation) (flip : Bool) (s : Set) (d : List ℕ) (z : Spaces) → puts (writesBy o flip s) d z ≡ storedAt o flip s (datumOf o flip s d) z
+pub writes-exactly : (m : Moves) (flip : Bool) (s : Set) (d : List ℕ) (z : Spaces) → puts (writesBy m flip s) d z ≡ storedAt m flip s (datumOf m flip s d) z
 unfolding storedAt
-writes-exactly o flip s d z = puts-writing 0 (bytes (writesOf o flip s)) (λ x. writtenOf o flip s (datumOf o flip s x)) d z
+writes-exactly m flip s d z = puts-writing 0 (bytes (writesOf m flip s)) (λ x. writtenOf m flip s (datumOf m flip s x)) d z
 
--- a unit leaves both spaces as long as they were
 pub worked-size : (w : Work) (z : Spaces) → SameSize (worked w z .spaces) z
-unfolding worked datumAt
+unfolding worked storedAt
 worked-size w z =
-    let o = operationOf (w .mode) in
+    let m = operationOf (w .mode) .moves in
     let flip = isFlipped (w .mode) in
-    let d = gets z (bytes (readsOf o flip (w .set))) in
-    subst (λ (x : Spaces). SameSize x z) (writes-exactly o flip (w .set) d z) (size-puts (writesBy o flip (w .set)) d z)
+    size-stores 0 (bytes (writesOf m flip (w .set))) (writtenOf m flip (w .set) (datumAt m flip (w .set) z)) z

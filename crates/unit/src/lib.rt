@@ -6,6 +6,7 @@ use address::Address;
 use address::Set;
 use comparing::Compared;
 use mode::Mode;
+use operation::Moves;
 use operation::Operation;
 use space::Width;
 
@@ -34,14 +35,14 @@ fn is_odd_at(w: Width, a: Address) -> bool
     }
 }
 
-// A search looks at its source alone.
-fn is_odd_word(o: Operation, flip: bool, s: Set) -> bool
-    ensures { λ r. ⌜ r ≡ oddWord o flip s ⌝ }
+// A word side at an odd address that the unit uses; a search uses its source alone.
+fn is_odd_word(moves: Moves, flip: bool, s: Set) -> bool
+    ensures { λ r. ⌜ r ≡ oddWord moves flip s ⌝ }
 {
-    if o.is_searching() {
-        is_odd_at(o.width_of_a(), s.source(flip))
-    } else {
-        is_odd_at(o.width_of_a(), s.a) | is_odd_at(o.width_of_b(), s.b)
+    match moves {
+        Moves::Transfer(w) => is_odd_at(w, s.a) | is_odd_at(w, s.b),
+        Moves::Search(w) => is_odd_at(w, s.source(flip)),
+        Moves::Funnel => is_odd_at(Width::Word, s.b),
     }
 }
 
@@ -50,8 +51,9 @@ pub fn unit_refusal(mode: Mode, s: Set) -> u8
     ensures { λ r. ⌜ r ≡ unitRefusal mode s ⌝ }
 {
     let o = mode.operation();
-    let odd = is_odd_word(o, mode.is_flipped(), s);
-    if o.is_carried() {
+    let moves = o.moves;
+    let odd = is_odd_word(moves, mode.is_flipped(), s);
+    if o.carried {
         if odd { 8 } else { 0 }
     } else {
         7
@@ -69,8 +71,9 @@ fn compare(
 ) -> Compared
     ensures { λ r. ⌜ r ≡ compared o datum pattern mask control kept ⌝ }
 {
-    if o.is_comparing() {
-        comparing::compare(o.width_of_b(), datum, pattern, mask, control)
+    if o.compares {
+        let moves = o.moves;
+        comparing::compare(moves.datum_width(), datum, pattern, mask, control)
     } else {
         kept
     }
@@ -83,7 +86,8 @@ pub fn carry(w: Work, memory: &mut [u8], io: &mut [u8]) -> Moved
     let mode = w.mode;
     let set = w.set;
     let o = mode.operation();
-    let done = accesses::access(o, mode.is_flipped(), set, memory, io);
+    let moves = o.moves;
+    let done = accesses::access(moves, mode.is_flipped(), set, memory, io);
     let next = done.set;
     let compared = compare(
         o,

@@ -13,4 +13,4 @@ read-on-spec =
     (λ c κs. search needs)
     (λ c κs. search needs)
     (λ c κs. search needs)
-    (λ c. rw (c .stepped-from .ensures, c .before .read .ensures, c .before .before .place-at .ensures, c .before .before .before .is-memory .ensures, c .before .before .before .before .number .ensures)))
+    (λ c. (rw (c .before .read .ensures, c .before .before .place-at .ensures, c .before .before .before .is-memory .ensures, c .before .before .before .before .number .ensures), c .stepped-from .ensures)))

@@ -1,10 +1,9 @@
 use borrow.Author.Needs.{needs}
-use Rattle.accesses.specs.Forms.{searched}
+use Rattle.accesses.proofs.Laws.{search-made}
 use Rattle.accesses.proofs.search_source.Statement.{statement}
 use Rattle.accesses.proofs.search_source.Tie as tie
 
 pub search-source-spec : {M : Type 1} → statement M
-unfolding searched
 search-source-spec =
     tie.close
     (tie.spec
@@ -12,4 +11,4 @@ search-source-spec =
     (λ c κs. search needs)
     (λ c κs. search needs)
     (λ c κs. search needs)
-    (λ c. rw (c .finished .ensures, c .before .destination .ensures, c .before .before .read-on .ensures, c .before .before .before .source .ensures)))
+    (λ c. let a = c .before .before .before .before .before .before .args in search-made (a .flip) (a .s) (a .w) _ _ _ _ _ _ (c .before .before .before .source .ensures) (c .before .before .read-on .ensures) (c .before .destination .ensures) (c .next-set .ensures)))

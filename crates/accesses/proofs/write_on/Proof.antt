@@ -15,4 +15,4 @@ write-on-spec =
     (λ c κs. search needs)
     (λ c. search needs)
     (λ c. search needs)
-    (λ c. rw (c .stepped-from .ensures, c .before .before .before .before .before .write .ensures, c .before .before .before .before .before .before .place-at .ensures, c .before .before .before .before .before .before .before .is-memory .ensures, c .before .before .before .before .before .before .before .before .before .before .number .ensures)))
+    (λ c. (c .stepped-from .ensures, rw (c .before .before .before .before .before .write .ensures, c .before .before .before .before .before .before .place-at .ensures, c .before .before .before .before .before .before .before .is-memory .ensures, c .before .before .before .before .before .before .before .before .before .before .number .ensures))))

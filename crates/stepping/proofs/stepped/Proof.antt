@@ -1,4 +1,7 @@
 use borrow.Author.Needs.{needs}
+use native.Mathlib.Omega.{arith}
+use mathlib.Core.Path.{sym}
+use Rattle.stepping.specs.Laws.{moved-rises}
 use Rattle.stepping.proofs.stepped.Statement.{statement}
 use Rattle.stepping.proofs.stepped.Tie as tie
 
@@ -8,8 +11,4 @@ stepped-spec =
     (tie.spec
     (λ c κs. search needs)
     (λ c. search needs)
-    (λ c κs. search needs)
-    (λ c. search needs)
-    (λ c κs. search needs)
-    (λ c. rw (c .moved-by .ensures, c .before .before .before .before .stride-of .ensures .0, c .before .before .p .given .1))
-    (λ c. rw (c .moved-by2 .ensures, c .before .before .before .before .stride-of .ensures .0, c .before .before .p2 .given .1)))
+    (λ c. let a = c .before .args in rw (c .rise-of .ensures .0) (sym (moved-rises 16777216 (a .d) (a .by) (a .a) (omega arith) (c .before .pre .0)))))

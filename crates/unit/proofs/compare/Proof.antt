@@ -10,6 +10,5 @@ compare-spec =
     (tie.spec
     (λ c κs. search needs)
     (λ c κs. search needs)
-    (λ c κs. search needs)
-    (λ c. rw (← c .before .before .before .is-comparing .ensures, c .before .before .if1 .taken, ← c .before .width-of-b .ensures) (c .compare .ensures))
-    (λ c. rw (← c .before .is-comparing .ensures, c .if1 .left)))
+    (λ c. rw (c .before .before .if1 .taken, ← c .before .datum-width .ensures) (c .compare .ensures))
+    (λ c. rw (c .if1 .left)))

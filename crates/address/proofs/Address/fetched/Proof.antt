@@ -9,6 +9,6 @@ fetched-spec =
     tie.close
     (tie.spec
     (λ c κs. search needs)
-    (λ c. search needs)
     (λ c κs. search needs)
-    (λ c. rw (c .with-number .ensures, c .before .number .ensures)))
+    (λ c κs. search needs)
+    (λ c. rw (c .with-number .ensures, c .before .stepped .ensures, c .before .before .number .ensures)))

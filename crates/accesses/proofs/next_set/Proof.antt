@@ -1,9 +1,9 @@
 use borrow.Author.Needs.{needs}
-use Rattle.accesses.proofs.finished.Statement.{statement}
-use Rattle.accesses.proofs.finished.Tie as tie
+use Rattle.accesses.proofs.next_set.Statement.{statement}
+use Rattle.accesses.proofs.next_set.Tie as tie
 
-pub finished-spec : {M : Type 1} → statement M
-finished-spec =
+pub next-set-spec : {M : Type 1} → statement M
+next-set-spec =
     tie.close
     (tie.spec
     (λ c κs. search needs)

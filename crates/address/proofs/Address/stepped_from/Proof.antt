@@ -1,0 +1,16 @@
+use borrow.Author.Needs.{needs}
+use Rattle.address.specs.Address.{steppedOn}
+use Rattle.address.proofs.Address.stepped_from.Statement.{statement}
+use Rattle.address.proofs.Address.stepped_from.Tie as tie
+
+pub stepped-from-spec : {M : Type 1} → statement M
+unfolding steppedOn
+stepped-from-spec =
+    tie.close
+    (tie.spec
+    (λ c κs. search needs)
+    (λ c κs. search needs)
+    (λ c κs. search needs)
+    (λ c κs. search needs)
+    (λ c κs. search needs)
+    (λ c. rw (c .with-number .ensures, c .before .stepped .ensures, c .before .before .direction-of .ensures, c .before .before .before .stride-of .ensures .0, c .before .before .before .before .is-memory .ensures, c .before .before .before .before .before .pre)))
