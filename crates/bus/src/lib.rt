@@ -5,11 +5,11 @@ use control::Back;
 use control::Bus;
 use control::Chain;
 use control::Control;
+use control::Served;
 use mode::RequestMode;
 use port::Which;
 use reload::Next;
 use reload::Stage;
-use control::Served;
 
 fn chain_after(chains: bool, w: Which, chain: Chain) -> Chain
     ensures { λ r. ⌜ r ≡ chainAfter chains w chain ⌝ }

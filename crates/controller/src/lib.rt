@@ -8,10 +8,11 @@ ghost use Rattle.choosing.specs.Channels.{keeper};
 ghost use Rattle.mode.specs.Mode.{requestModeOf};
 ghost use Rattle.address.specs.Address.{isOdd};
 ghost use Rattle.unit.specs.Unit.{unitRefusal};
+ghost use Rattle.control.specs.After.{droppedControl};
 ghost use Rattle.controller.specs.Set.{_⟨control≔_⟩};
 ghost use Rattle.controller.specs.Controller.{at, with};
 ghost use Rattle.controller.specs.Choice.{turn, factsOf, faultsOf, choice};
-ghost use Rattle.controller.specs.Fetching.{loadedAs, fetchedBy, dropOf, fetchOf};
+ghost use Rattle.controller.specs.Fetching.{loadedAs, fetchedBy, fetchOf};
 ghost use Rattle.controller.specs.Step.{outcome, workOf, goneOn, endedAfter, unitOf, holdOf, backOf, performOf, stepOf};
 use board::Board;
 use channel::Channel;
@@ -236,9 +237,9 @@ impl Controller {
 
     // ---- a chain's word
 
-    // EOP with a fetch: the chain is dropped.
-    pub fn drop_chain(self, w: Which) -> Controller
-        ensures { λ r. ⌜ r ≡ dropOf w self .state ⌝ }
+    // The controller after EOP with a fetch, whose channel is d: its chain is dropped.
+    pub fn settle_drop(self, w: Which, d: Channel) -> Controller
+        ensures { λ r. ⌜ r ≡ with w d (self ⟨control≔ droppedControl (self .control) ⟩) ⌝ }
     {
         let k = self.control;
         let bus = k.bus;
@@ -249,22 +250,16 @@ impl Controller {
             note: k.note,
             served,
         };
-        self.with_both(w, chain::drop_chain(self.channel(w)), next)
+        self.with_both(w, d, next)
     }
 
-    // The controller after a word of a chain.
+    // The controller after a word of a chain, whose channel is then d.
     pub fn settle_fetch(self, w: Which, d: Channel, next: Next) -> Controller
         ensures { λ r. ⌜ r ≡ fetchedBy w (loadedAs d next) self .state ⌝ }
     {
         let k = self.control;
         let active = request::is_requesting(d.mode, d.line);
-        let after = bus::control_fetched(
-            next,
-            choosing::is_interleaved(self.master),
-            active,
-            w,
-            k,
-        );
+        let after = bus::control_fetched(next, choosing::is_interleaved(self.master), active, w, k);
         self.with_both(w, d, after)
     }
 
@@ -272,13 +267,13 @@ impl Controller {
     fn fetch(self, w: Which, stage: Stage, eop: bool, memory: &[u8]) -> Stepped
         ensures { λ r. ⌜ r ≡ fetchOf w stage eop self (now (memory .entry)) ⌝ }
     {
+        let c = self.channel(w);
         if eop {
             return Stepped {
-                state: self.drop_chain(w),
+                state: self.settle_drop(w, chain::drop_chain(c)),
                 answer: Answer::Dropped(w),
             };
         }
-        let c = self.channel(w);
         let word = space::read_memory(memory, MemoryAddress(c.chain.number()), Width::Word);
         let l = chain::fetch(stage, word, c);
         let d = l.channel;

@@ -26,7 +26,7 @@ fn fetch(u: Controller, w: Which, stage: Stage, left: u32, eop: bool, memory: &[
     let c = u.channel(w);
     if eop {
         return Ran {
-            state: u.drop_chain(w),
+            state: u.settle_drop(w, chain::drop_chain(c)),
             answer: Answer::Dropped(w),
             steps: 1,
         };

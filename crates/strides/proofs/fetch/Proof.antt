@@ -11,7 +11,8 @@ fetch-spec =
     (tie.spec
     (λ c κs. search needs)
     (λ c κs. search needs)
-    (λ c. rw (c .before .if1 .taken, c .drop-chain .ensures))
+    (λ c κs. search needs)
+    (λ c. rw (c .before .before .if1 .taken, c .settle-drop .ensures, c .before .drop-chain .ensures, c .before .before .before .channel .ensures))
     (λ c κs. search needs)
     (λ c κs. search needs)
     (λ c. let a = c .before .before .before .before .before .before .args in fetches (a .eop) (a .w) (a .stage) (a .left) (a .u) _ _ _ _ (c .before .before .before .if1 .left) (c .before .before .before .before .channel .ensures) (c .before .before .fetch-on .ensures) (c .settle-fetch .ensures)))

@@ -9,10 +9,11 @@ fetch-spec =
     tie.close
     (tie.spec
     (λ c κs. search needs)
-    (λ c. rw (c .before .if1 .taken, c .drop-chain .ensures))
+    (λ c κs. search needs)
+    (λ c κs. search needs)
+    (λ c. rw (c .before .before .if1 .taken, c .settle-drop .ensures, c .before .drop-chain .ensures, c .before .before .before .channel .ensures))
     (λ c κs. search needs)
     (λ c κs. search needs)
     (λ c κs. search needs)
     (λ c κs. search needs)
-    (λ c κs. search needs)
-    (λ c. rw (c .before .before .before .before .before .before .if1 .left, c .settle-fetch .ensures, c .before .before .fetch .ensures, c .before .before .before .read-memory .ensures, c .before .before .before .before .number .ensures, c .before .before .before .before .before .channel .ensures)))
+    (λ c. rw (c .before .before .before .before .before .if1 .left, c .settle-fetch .ensures, c .before .before .fetch .ensures, c .before .before .before .read-memory .ensures, c .before .before .before .before .number .ensures, c .before .before .before .before .before .before .channel .ensures)))
