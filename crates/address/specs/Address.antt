@@ -5,9 +5,8 @@ use mathlib.Core.Bool.{Bool, cond}
 use lib.Dec.{eqb}
 use Rattle.space.specs.declared.Place.{Place}
 use Rattle.space.specs.declared.Width.{Width}
-use Rattle.space.specs.declared.Direction.the-variants.{Up}
 use Rattle.space.specs.Space.{placeAt}
-use Rattle.stepping.specs.Stepping.{stride, moved}
+use Rattle.stepping.specs.Stepping.{stride, Up, moved}
 use Rattle.funnel.specs.Funnel.{highFirst}
 use Rattle.address.specs.declared.Address.{Address}
 use Rattle.address.specs.declared.Set.{Set}

@@ -3,10 +3,10 @@ use mathlib.Core.Path.{_≡_, ap}
 use Prim.Native.Nat.{ℕ, _/_, _%_, _<_}
 use native.Mathlib.Omega.{arith}
 use Rattle.space.specs.declared.Width.{Width}
-use Rattle.stepping.specs.Stepping.{moved, stride}
+use Rattle.stepping.specs.Stepping.{stride, direction, moved}
 use Rattle.stepping.specs.Laws.{moved-lt}
 use Rattle.address.specs.declared.Address.{Address}
-use Rattle.tag.specs.Tag.{keptTag, keptChain, isMemory, direction, directionOf, waits, waitsOf}
+use Rattle.tag.specs.Tag.{keptTag, keptChain, isMemory, directionOf, waits, waitsOf}
 use Rattle.address.specs.Address.{number, withNumber, steppedOn}
 
 -- both words have 16 bits

@@ -1,8 +1,10 @@
 // An address register, the 24-bit address that it holds and how it steps; the registers of an operation.
 ghost use mathlib.Core.Path.{_≡_};
 ghost use Rattle.address.specs.Address.{number, withNumber, steppedOn, fetchedOn, isOdd, sourceOf, destinationOf, orderOf};
-use space::Direction;
 use space::Width;
+
+// The step field of an address that steps up.
+const UP: u16 = 0;
 
 // An address register, as the two words that are read.
 pub struct Address {
@@ -34,14 +36,14 @@ impl Address {
         ensures { λ r. ⌜ r ≡ steppedOn w self ⌝ }
     {
         let by = stepping::stride_of(tag::is_memory(self.upper), w);
-        self.with_number(stepping::stepped(n, tag::direction_of(self.upper), by))
+        self.with_number(stepping::stepped(n, tag::step_of(self.upper), by))
     }
 
     // The chain address after a fetch: each adds 2.
     pub fn fetched(self) -> Address
         ensures { λ r. ⌜ r ≡ fetchedOn self ⌝ }
     {
-        self.with_number(stepping::stepped(self.number(), Direction::Up, 2))
+        self.with_number(stepping::stepped(self.number(), UP, 2))
     }
 
     pub fn is_odd(self) -> bool

@@ -18,12 +18,6 @@ pub enum Width {
     Word,
 }
 
-pub enum Direction {
-    Up,
-    Down,
-    Hold,
-}
-
 // The place of an address: memory or I/O.
 pub fn place_at(memory: bool, a: u32) -> Place
     ensures { λ r. ⌜ r ≡ placeAt memory a ⌝ }

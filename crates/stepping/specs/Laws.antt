@@ -6,9 +6,7 @@ use native.Mathlib.Nat.{mod-lt, mod-eq-of-lt}
 use native.Mathlib.Omega.{arith}
 use Rattle.space.specs.declared.Width.{Width}
 use Rattle.space.specs.declared.Width.the-variants.{Byte, Word}
-use Rattle.space.specs.declared.Direction.{Direction}
-use Rattle.space.specs.declared.Direction.the-variants.{Up, Down, Hold}
-use Rattle.stepping.specs.Stepping.{moved, stride}
+use Rattle.stepping.specs.Stepping.{stride, Direction, Up, Down, Hold, moved}
 
 pub stride-le : (memory : Bool) (w : Width) → stride memory w ≤ 2
 stride-le true Byte = omega arith

@@ -3,13 +3,21 @@ use Prim.Native.Nat.{ℕ, _+_, _-_, _%_}
 use mathlib.Core.Bool.{Bool, cond}
 use Rattle.space.specs.declared.Width.{Width}
 use Rattle.space.specs.declared.Width.the-variants.{Byte, Word}
-use Rattle.space.specs.declared.Direction.{Direction}
-use Rattle.space.specs.declared.Direction.the-variants.{Up, Down, Hold}
+use lib.Dec.{eqb}
 
 -- Memory bytes by 1, words and all I/O by 2.
 abbrev pub stride : Bool → Width → ℕ
 stride memory Byte = cond memory 1 2
 stride memory Word = 2
+
+pub data Direction : Type 0 where
+  Up : Direction
+  Down : Direction
+  Hold : Direction
+
+-- Step: 0 up, 1 down, 2 and 3 hold.
+abbrev pub direction : ℕ → Direction
+direction field = cond (eqb field 0) Up (cond (eqb field 1) Down Hold)
 
 -- Addresses step modulo how many there are: 16,777,216 of 24 bits.
 abbrev pub moved : ℕ → Direction → ℕ → ℕ → ℕ

@@ -2,8 +2,7 @@
 use Prim.Native.Nat.{ℕ, _+_, _*_, _/_, _%_}
 use mathlib.Core.Bool.{Bool, cond}
 use lib.Dec.{eqb}
-use Rattle.space.specs.declared.Direction.{Direction}
-use Rattle.space.specs.declared.Direction.the-variants.{Up, Down, Hold}
+use Rattle.stepping.specs.Stepping.{Direction, direction}
 
 -- Bits 15-8 upper address; 7 Normal; 6 memory or I/O; 4-3 step; 2-1 waits. Bits 5 and 0 are absent: 15-6 and 4-1 are kept.
 abbrev pub keptTag : ℕ → ℕ
@@ -22,11 +21,11 @@ abbrev pub isMemory : ℕ → Bool
 isMemory w = eqb (w / 64 % 2) 1
 
 -- Step: 0 up, 1 down, 2 and 3 hold.
-abbrev pub direction : ℕ → Direction
-direction field = cond (eqb field 0) Up (cond (eqb field 1) Down Hold)
+abbrev pub stepOf : ℕ → ℕ
+stepOf w = w / 8 % 4
 
 unfoldable pub directionOf : ℕ → Direction
-directionOf w = direction (w / 8 % 4)
+directionOf w = direction (stepOf w)
 
 -- Waits 0, 1, 2, 4; for request E7.
 abbrev pub waits : ℕ → ℕ

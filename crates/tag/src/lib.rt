@@ -1,7 +1,6 @@
 // The upper/tag word of an address register: its fields by shifts and masks.
 ghost use mathlib.Core.Path.{_≡_};
-ghost use Rattle.tag.specs.Tag.{keptTag, keptChain, isMemory, isNormal, directionOf, waitsOf};
-use space::Direction;
+ghost use Rattle.tag.specs.Tag.{keptTag, keptChain, isMemory, isNormal, stepOf, waitsOf};
 
 // Bits 5 and 0 are absent.
 pub fn kept_tag(w: u16) -> u16
@@ -31,15 +30,10 @@ pub fn is_normal(w: u16) -> bool
 }
 
 // The step field: 0 up, 1 down, 2 and 3 hold.
-pub fn direction_of(w: u16) -> Direction
-    ensures { λ r. ⌜ r ≡ directionOf w ⌝ }
+pub fn step_of(w: u16) -> u16
+    ensures { λ r. ⌜ r ≡ stepOf w ⌝ }
 {
-    let field = (w >> 3) & 3;
-    match field {
-        0 => Direction::Up,
-        1 => Direction::Down,
-        _ => Direction::Hold,
-    }
+    (w >> 3) & 3
 }
 
 // The programmed waits: 0, 1, 2 or 4; for request E7.

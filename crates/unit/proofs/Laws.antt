@@ -1,16 +1,18 @@
 -- The tests and the unit, made of their calls' answers.
 use mathlib.Core.Path.{_≡_, refl, ap}
-use mathlib.Core.Bool.{Bool, true, false, _||_}
+use mathlib.Core.Bool.{Bool, true, false, cond, _||_}
 use Prim.Native.Nat.{ℕ}
 use Rattle.space.specs.declared.Width.{Width}
 use Rattle.space.specs.declared.Width.the-variants.{Word}
 use Rattle.space.specs.Space.{Spaces}
 use Rattle.comparing.specs.declared.Compared.{Compared}
+use Rattle.comparing.specs.Comparison.{comparison}
 use Rattle.counting.specs.Count.{terminal}
 use Rattle.address.specs.declared.Set.{Set}
 use Rattle.address.specs.Address.{sourceOf}
 use Rattle.operation.specs.declared.Operation.{Operation}
 use Rattle.operation.specs.declared.Moves.the-variants.{Transfer, Search, Funnel}
+use Rattle.operation.specs.Operation.{datumWidth}
 use Rattle.mode.specs.Mode.{operationOf, isFlipped, matchControl}
 use Rattle.accesses.specs.declared.Done.{Done}
 use Rattle.accesses.specs.Accesses.{Effect, doneAs, datumAt, storedAt, steppedSet, accessed}
@@ -54,13 +56,14 @@ funnel-odd false s = last (oddAt Word (s .b))
 
 -- ---- the unit
 
-pub carried : (w : Work) (z z′ : Spaces) (o : Operation) (flip : Bool) (d : Done) (k : ℕ) (r : Compared) (t : Bool)
+pub carried : (w : Work) (z z′ : Spaces) (o : Operation) (flip : Bool) (d : Done) (width : Width) (k : ℕ) (r : Compared) (t : Bool)
     → o ≡ operationOf (w .mode) → flip ≡ isFlipped (w .mode) → doneAs d z′ ≡ accessed (o .moves) flip (w .set) z
-    → k ≡ matchControl (w .mode) → r ≡ compared o (d .datum) (w .pattern) (w .mask) k (w .kept) → t ≡ terminal (d .set .count)
+    → width ≡ datumWidth (o .moves) → k ≡ matchControl (w .mode)
+    → r ≡ cond (o .compares) (comparison width (d .datum) (w .pattern) (w .mask) k) (w .kept) → t ≡ terminal (d .set .count)
     → whole (record { set = d .set; compared = r; tc = t }) z′ ≡ worked w z
-unfolding worked movedOf accessed steppedSet
-carried w z z′ o flip d k r t eo ef e ek er et =
+unfolding worked movedOf accessed steppedSet compared
+carried w z z′ o flip d width k r t eo ef e ew ek er et =
     let es : d .set ≡ steppedSet (o .moves) flip (w .set) = ap (λ (x : Effect). x .done .set) e in
     let ev : d .datum ≡ datumAt (o .moves) flip (w .set) z = ap (λ (x : Effect). x .done .datum) e in
     let ez : z′ ≡ storedAt (o .moves) flip (w .set) (datumAt (o .moves) flip (w .set) z) z = ap (λ (x : Effect). x .spaces) e in
-    rw (et, er, ek, es, ev, ez, ef, eo)
+    rw (et, er, ek, ew, es, ev, ez, ef, eo)

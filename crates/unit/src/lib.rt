@@ -1,13 +1,14 @@
 // One unit: what its accesses and its comparison make of the registers that it works on.
 ghost use mathlib.Core.Path.{_≡_};
 ghost use Rattle.space.specs.Space.{spaces};
-ghost use Rattle.unit.specs.Unit.{oddAt, oddWord, unitRefusal, compared, whole, worked};
+ghost use mathlib.Core.Bool.{cond};
+ghost use Rattle.comparing.specs.Comparison.{comparison};
+ghost use Rattle.unit.specs.Unit.{oddAt, oddWord, unitRefusal, whole, worked};
 use address::Address;
 use address::Set;
 use comparing::Compared;
 use mode::Mode;
 use operation::Moves;
-use operation::Operation;
 use space::Width;
 
 // What a unit works on.
@@ -62,18 +63,18 @@ pub fn unit_refusal(mode: Mode, s: Set) -> u8
 
 // Only some operations compare; the others leave what was kept.
 fn compare(
-    o: Operation,
+    compares: bool,
+    width: Width,
     datum: u16,
     pattern: u16,
     mask: u16,
     control: u16,
     kept: Compared,
 ) -> Compared
-    ensures { λ r. ⌜ r ≡ compared o datum pattern mask control kept ⌝ }
+    ensures { λ r. ⌜ r ≡ cond compares (comparison width datum pattern mask control) kept ⌝ }
 {
-    if o.compares {
-        let moves = o.moves;
-        comparing::compare(moves.datum_width(), datum, pattern, mask, control)
+    if compares {
+        comparing::compare(width, datum, pattern, mask, control)
     } else {
         kept
     }
@@ -90,7 +91,8 @@ pub fn carry(w: Work, memory: &mut [u8], io: &mut [u8]) -> Moved
     let done = accesses::access(moves, mode.is_flipped(), set, memory, io);
     let next = done.set;
     let compared = compare(
-        o,
+        o.compares,
+        moves.datum_width(),
         done.datum,
         w.pattern,
         w.mask,

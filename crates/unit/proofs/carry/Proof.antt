@@ -13,6 +13,7 @@ carry-spec =
     (λ c κs. search needs)
     (λ c κs. search needs)
     (λ c κs. search needs)
+    (λ c κs. search needs)
     (λ c. search needs)
     (λ c. search needs)
-    (λ c. let a = c .before .before .before .before .before .before .before .before .before .before .before .before .before .before .before .before .before .args in carried (a .w) _ _ _ _ _ _ _ _ (c .before .before .before .before .before .before .before .before .before .before .before .before .operation .ensures) (c .before .before .before .before .before .before .before .before .before .before .before .is-flipped .ensures) (c .before .before .before .before .before .before .before .before .access .ensures) (c .before .before .match-control .ensures) (c .before .compare .ensures) (c .is-terminal .ensures)))
+    (λ c. let a = c .before .before .before .before .before .before .before .before .before .before .before .before .before .before .before .before .before .before .args in carried (a .w) _ _ _ _ _ _ _ _ _ (c .before .before .before .before .before .before .before .before .before .before .before .before .before .operation .ensures) (c .before .before .before .before .before .before .before .before .before .before .before .before .is-flipped .ensures) (c .before .before .before .before .before .before .before .before .before .access .ensures) (c .before .before .before .datum-width .ensures) (c .before .before .match-control .ensures) (c .before .compare .ensures) (c .is-terminal .ensures)))

@@ -1,10 +1,11 @@
 use borrow.Author.Needs.{needs}
+use Rattle.tag.specs.Tag.{directionOf}
 use Rattle.address.specs.Address.{steppedOn}
 use Rattle.address.proofs.Address.stepped_from.Statement.{statement}
 use Rattle.address.proofs.Address.stepped_from.Tie as tie
 
 pub stepped-from-spec : {M : Type 1} → statement M
-unfolding steppedOn
+unfolding steppedOn directionOf
 stepped-from-spec =
     tie.close
     (tie.spec
@@ -13,4 +14,4 @@ stepped-from-spec =
     (λ c κs. search needs)
     (λ c κs. search needs)
     (λ c κs. search needs)
-    (λ c. rw (c .with-number .ensures, c .before .stepped .ensures, c .before .before .direction-of .ensures, c .before .before .before .stride-of .ensures .0, c .before .before .before .before .is-memory .ensures, c .before .before .before .before .before .pre)))
+    (λ c. rw (c .with-number .ensures, c .before .stepped .ensures, c .before .before .step-of .ensures, c .before .before .before .stride-of .ensures .0, c .before .before .before .before .is-memory .ensures, c .before .before .before .before .before .pre)))
