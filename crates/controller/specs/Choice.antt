@@ -34,7 +34,7 @@ factsOf u = record {
 abbrev pub faultsOf : Board → Controller → Faults
 faultsOf b u = record {
   oddTable = λ w. isOdd (at w u .chain);
-  unit = λ w. unitRefusals (at w u .mode) (at w u .current);
+  unit = λ w. unitRefusals b (at w u .mode) (at w u .current);
 }
 
 unfoldable pub choice : Board → Controller → Choice

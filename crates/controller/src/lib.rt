@@ -203,12 +203,12 @@ impl Controller {
         }
     }
 
-    fn unit_refusal(self, w: Which) -> u8
-        ensures { λ r. ⌜ r ≡ unitRefusal (at w self .mode) (at w self .current) ⌝ }
+    fn unit_refusal(self, board: Board, w: Which) -> u8
+        ensures { λ r. ⌜ r ≡ unitRefusal board (at w self .mode) (at w self .current) ⌝ }
     {
         match w {
-            Which::One => unit::unit_refusal(self.one.mode, self.one.current),
-            Which::Two => unit::unit_refusal(self.two.mode, self.two.current),
+            Which::One => unit::unit_refusal(board, self.one.mode, self.one.current),
+            Which::Two => unit::unit_refusal(board, self.two.mode, self.two.current),
         }
     }
 
@@ -221,7 +221,7 @@ impl Controller {
             Choice::Refused(n) => Choice::Refused(n),
             Choice::Fetch(w, stage) => choosing::fetch_choice(stage, self.has_odd_table(w), w),
             Choice::GiveBack => Choice::GiveBack,
-            Choice::Unit(w) => choosing::unit_choice(self.unit_refusal(w), w),
+            Choice::Unit(w) => choosing::unit_choice(self.unit_refusal(board, w), w),
             Choice::Hold(w) => Choice::Hold(w),
             Choice::Release => Choice::Release,
             Choice::Idle => Choice::Idle,

@@ -26,6 +26,7 @@ use Rattle.controller.specs.declared.Controller.{Controller}
 use Rattle.controller.specs.declared.Stepped.{Stepped}
 use Rattle.controller.specs.declared.Answer.{Answer}
 use Rattle.controller.specs.Controller.{at}
+use Rattle.board.specs.declared.Board.{Board}
 use Rattle.board.specs.Board.{boardOf}
 use Rattle.board.specs.Laws.{same-board}
 use Rattle.unit.specs.Laws.{worked-size}
@@ -90,20 +91,21 @@ unfolding stepOf performOf
 unit-step w eop u z e = sym (ap (λ (c : Choice). performOf c eop u z) e)
 
 -- the controller stands before the pair's unit, and what a unit leaves is what it would leave of u with the pair's registers
-record Units (both : Bool) (u : Controller) (s : UnitAt) (o : Outcome) : Type 0 where
+record Units (b : Board) (both : Bool) (u : Controller) (s : UnitAt) (o : Outcome) : Type 0 where
+  board : boardOf (o .spaces) ≡ b
   chosen : choice (boardOf (o .spaces)) (o .stepped .state) ≡ Unit (s .pair .which)
   flows : flows both (s .pair .which) (o .stepped .state) ≡ true
   pair : pairOf (s .pair .which) (o .stepped .state) ≡ s .pair
   spaces : o .spaces ≡ s .spaces
   same : (x : Which) (k : Work) (m : Moved) → unitOf x false (rested (other x) k (o .stepped .state)) m ≡ unitOf x false (rested (other x) k u) m
 
-module _ (both : Bool) (u : Controller) where
+module _ (b : Board) (both : Bool) (u : Controller) where
   unit-on : (k : Done) → stops (unitDone false u k .stepped .answer) ≡ false
   unfolding unitOf
   unit-on k = refl
 
   -- a unit by itself leaves what it leaves of u
-  as-one : (s : UnitAt) (o : Outcome) → Units both u s o → (m : Moved) → unitOf (s .pair .which) false (o .stepped .state) m ≡ unitOf (s .pair .which) false (rested (other (s .pair .which)) (s .pair .other) u) m
+  as-one : (s : UnitAt) (o : Outcome) → Units b both u s o → (m : Moved) → unitOf (s .pair .which) false (o .stepped .state) m ≡ unitOf (s .pair .which) false (rested (other (s .pair .which)) (s .pair .other) u) m
   as-one s o p m =
       let w = s .pair .which in
       let v = o .stepped .state in
@@ -111,7 +113,7 @@ module _ (both : Bool) (u : Controller) where
       ∙ p .same w (workOf (at (other w) v)) m
       ∙ ap (λ (q : Pair). unitOf w false (rested (other w) (q .other) u) m) (p .pair)
 
-  unit-steps : (s : UnitAt) (o : Outcome) → Units both u s o → unitDone false u (unitTurns both .result s) ≡ nextBy false o
+  unit-steps : (s : UnitAt) (o : Outcome) → Units b both u s o → unitDone false u (unitTurns b both .result s) ≡ nextBy false o
   unit-steps s o p =
       let w = s .pair .which in
       let v = o .stepped .state in
@@ -120,18 +122,19 @@ module _ (both : Bool) (u : Controller) where
       ∙ sym (ap (λ (y : Stepped). outcome y (k .spaces)) (as-one s o p (k .moved)))
       ∙ unit-step w false v (o .spaces) (p .chosen)
 
-  unit-next : (s : UnitAt) (o : Outcome) → Units both u s o → unitTurns both .follows s (unitTurns both .result s) ≡ true
-      → Units both u (unitTurns both .next s (unitTurns both .result s)) (unitDone false u (unitTurns both .result s))
+  unit-next : (s : UnitAt) (o : Outcome) → Units b both u s o → unitTurns b both .follows s (unitTurns b both .result s) ≡ true
+      → Units b both u (unitTurns b both .next s (unitTurns b both .result s)) (unitDone false u (unitTurns b both .result s))
   unit-next s o p f =
       let w = s .pair .which in
       let v = o .stepped .state in
       let m = worked (s .pair .work) (s .spaces) .moved in
-      let g = goes m (after both (pairOf w v) m .work) (ap (λ (q : Pair). follows m (after both q m .work)) (p .pair) ∙ f) in
+      let g = goes b m (after both (pairOf w v) m .work) (ap (λ (q : Pair). follows b m (after both q m .work)) (p .pair) ∙ f) in
       let there : unitOf w false (rested (other w) (s .pair .other) u) m .state ≡ goneBy both w v m = ap (λ (y : Stepped). y .state) (sym (as-one s o p m) ∙ leaves w v m both (p .flows) (g .0)) in
-      let kept = same-board (worked-size (s .pair .work) (s .spaces)) ∙ sym (ap boardOf (p .spaces)) in
+      let kept = same-board (worked-size (s .pair .work) (s .spaces)) ∙ sym (ap boardOf (p .spaces)) ∙ p .board in
       let next : after both (s .pair) m ≡ after both (pairOf w v) m = sym (ap (λ (q : Pair). after both q m) (p .pair)) in
       record {
-        chosen = (λ i. choice (kept i) (there i)) ∙ comes w v m (boardOf (o .spaces)) both (p .flows) (g .1) (p .chosen) ∙ sym (ap (λ (q : Pair). Unit (q .which)) next);
+        board = kept;
+        chosen = (λ i. choice (kept i) (there i)) ∙ comes w v m b both (p .flows) (g .1) (sym (ap (λ (x : Board). choice x v) (p .board)) ∙ p .chosen) ∙ sym (ap (λ (q : Pair). Unit (q .which)) next);
         flows = (λ i. flows both (next i .which) (there i)) ∙ flows-on w v m both (p .flows);
         pair = (λ i. pairOf (next i .which) (there i)) ∙ passes w v m both (g .0) ∙ sym next;
         spaces = refl;
@@ -219,19 +222,19 @@ module _ (N k : ℕ) (u : Controller) (a : Answer) (z : Spaces) (h : k < N) wher
         stop = λ q. absurd (true≢false (sym q ∙ unstopped (inARow t (N - k - 1) 0 s .last)));
       }
 
-  of-units : (both : Bool) (w : Which) → choice (boardOf z) u ≡ Unit w → flows both w u ≡ true → Strides false N k from (unitsBy false u (onwards both (N - k - 1) 0 (pairOf w u) z))
+  of-units : (both : Bool) (w : Which) → choice (boardOf z) u ≡ Unit w → flows both w u ≡ true → Strides false N k from (unitsBy false u (onwards (boardOf z) both (N - k - 1) 0 (pairOf w u) z))
   of-units both w c f =
       let s : UnitAt = record { pair = pairOf w u; spaces = z } in
-      of-row (unitTurns both) (unitDone false u) s (unit-on both u)
-      (in-a-row (unitTurns both) false (unitDone false u) (Units both u) (unit-steps both u) (unit-on both u) (unit-next both u) N k (N - k - 1) 0 s from
-      (record { chosen = c; flows = f; pair = refl; spaces = refl; same = λ x y m. refl })
+      of-row (unitTurns (boardOf z) both) (unitDone false u) s (unit-on (boardOf z) both u)
+      (in-a-row (unitTurns (boardOf z) both) false (unitDone false u) (Units (boardOf z) both u) (unit-steps (boardOf z) both u) (unit-on (boardOf z) both u) (unit-next (boardOf z) both u) N k (N - k - 1) 0 s from
+      (record { board = refl; chosen = c; flows = f; pair = refl; spaces = refl; same = λ x y m. refl })
       (omega arith))
 
-  one-of : (eop both : Bool) (w : Which) → choice (boardOf z) u ≡ Unit w → Strides eop N k from (unitsBy eop u (onwards both 0 0 (pairOf w u) z))
+  one-of : (eop both : Bool) (w : Which) → choice (boardOf z) u ≡ Unit w → Strides eop N k from (unitsBy eop u (onwards (boardOf z) both 0 0 (pairOf w u) z))
   one-of eop both w c = subst (Strides eop N k from) (sym (one-unit both eop w u z)) (alone eop (Unit w) c)
 
   by-limit : (eop : Bool) (w : Which) → choice (boardOf z) u ≡ Unit w → (both : Bool) → takeTurns u ≡ both → (r : Bool) → isDedicated (requestModeOf (at w u .mode)) ≡ r
-      → Strides eop N k from (unitsBy eop u (onwards both (cond (not eop && (both || r)) (N - k) 1 - 1) 0 (pairOf w u) z))
+      → Strides eop N k from (unitsBy eop u (onwards (boardOf z) both (cond (not eop && (both || r)) (N - k) 1 - 1) 0 (pairOf w u) z))
   by-limit false w c true t r d = of-units true w c t
   by-limit false w c false t true d = of-units false w c d
   by-limit false w c false t false d = one-of false false w c

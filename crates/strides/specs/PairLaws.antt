@@ -107,8 +107,8 @@ fit true w u e =
     λ i. both-true (not (at w u .pending)) _ (t .interleaved w) .1 i && not (t .clear i)
 fit false w u e = e
 
-pub goes : (m : Moved) (next : Work) → follows m next ≡ true → ((m .tc || m .compared .met) ≡ false) × (eqb (unitRefusal (next .mode) (next .set)) 0 ≡ true)
-goes m next e = let k = both-true (not (m .tc || m .compared .met)) _ e in (not-true _ (k .0), k .1)
+pub goes : (b : Board) (m : Moved) (next : Work) → follows b m next ≡ true → ((m .tc || m .compared .met) ≡ false) × (eqb (unitRefusal b (next .mode) (next .set)) 0 ≡ true)
+goes b m next e = let k = both-true (not (m .tc || m .compared .met)) _ e in (not-true _ (k .0), k .1)
 
 met-not : (m : Moved) → (m .tc || m .compared .met) ≡ false → m .compared .met ≡ false
 met-not m e = go (m .tc) (m .compared .met) e
@@ -219,7 +219,7 @@ module _ (w : Which) (u : Controller) (m : Moved) where
   flows-on false e = ap (λ (c : Channel). isDedicated (requestModeOf (c .mode))) (at-of w (movedBy m (at w u)) (left false w u)) ∙ e
 
   -- the next unit comes next
-  pub comes : (board : Board) (both : Bool) → flows both w u ≡ true → eqb (unitRefusal (after both (pairOf w u) m .work .mode) (after both (pairOf w u) m .work .set)) 0 ≡ true
+  pub comes : (board : Board) (both : Bool) → flows both w u ≡ true → eqb (unitRefusal board (after both (pairOf w u) m .work .mode) (after both (pairOf w u) m .work .set)) 0 ≡ true
       → choice board u ≡ Unit w → choice board (goneBy both w u m) ≡ Unit (after both (pairOf w u) m .which)
   unfolding turn at movedBy unitRefusal
   comes board both e n q = by-both both e (zero-of _ n)
@@ -239,16 +239,16 @@ module _ (w : Which) (u : Controller) (m : Moved) where
       bus : (b : Bool) → goneBy b w u m .control .bus ≡ busAfter b w
       bus b = ap (λ (x : Control). x .bus) (control-of w (movedBy m (at w u)) (left b w u))
 
-      by-both : (b : Bool) → flows b w u ≡ true → unitRefusal (after b (pairOf w u) m .work .mode) (after b (pairOf w u) m .work .set) ≡ 0
+      by-both : (b : Bool) → flows b w u ≡ true → unitRefusal board (after b (pairOf w u) m .work .mode) (after b (pairOf w u) m .work .set) ≡ 0
           → choice board (goneBy b w u m) ≡ Unit (after b (pairOf w u) m .which)
       by-both true f r =
           let v = goneBy true w u m in
           let t = in-turn v (flows-on true f) in
           let turned = (λ i. turnBy (t .ready One i) (t .ready Two i) (t .interleaved One i && t .interleaved Two i) (control-of w (movedBy m (at w u)) (left true w u) i .served)) ∙ turn-on w in
           chooses board v (as-intended (begins-unit (other w) (record { calm = calm true; bus = bus true; turn = turned }) (unpending (at (other w) v) (t .interleaved (other w))))
-          (ap (λ (x : Channel). unitRefusal (x .mode) (x .current)) (rests true) ∙ r))
+          (ap (λ (x : Channel). unitRefusal board (x .mode) (x .current)) (rests true) ∙ r))
       by-both false f r =
           let v = goneBy false w u m in
           let o = at-of w (movedBy m (at w u)) (left false w u) in
           chooses board v (as-intended (keeps w (record { calm = calm false; bus = bus false; asks = ap (λ (x : Channel). requests (x .mode) (x .line)) o ∙ c .asks }))
-          (ap (λ (x : Channel). unitRefusal (x .mode) (x .current)) o ∙ r))
+          (ap (λ (x : Channel). unitRefusal board (x .mode) (x .current)) o ∙ r))

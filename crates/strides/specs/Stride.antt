@@ -76,7 +76,7 @@ strideBy (Fetch w stage) left eop u z = ranAs (fetchesBy eop w stage left u (z .
 strideBy GiveBack left eop u z = single (performOf GiveBack eop u z)
 strideBy (Unit w) left eop u z =
     let both = takeTurns u in
-    unitsBy eop u (onwards both (limitOf both (requestModeOf (at w u .mode)) left eop - 1) 0 (pairOf w u) z)
+    unitsBy eop u (onwards (boardOf z) both (limitOf both (requestModeOf (at w u .mode)) left eop - 1) 0 (pairOf w u) z)
 strideBy (Hold w) left eop u z = single (performOf (Hold w) eop u z)
 strideBy Release left eop u z = single (performOf Release eop u z)
 strideBy Idle left eop u z = single (performOf Idle eop u z)

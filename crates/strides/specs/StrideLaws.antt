@@ -113,7 +113,7 @@ unfolding at with movedBy
 unrested One u = refl
 unrested Two u = refl
 
-pub one-unit : (both eop : Bool) (w : Which) (u : Controller) (z : Spaces) → unitsBy eop u (onwards both 0 0 (pairOf w u) z) ≡ single (performOf (Unit w) eop u z)
+pub one-unit : (both eop : Bool) (w : Which) (u : Controller) (z : Spaces) → unitsBy eop u (onwards (boardOf z) both 0 0 (pairOf w u) z) ≡ single (performOf (Unit w) eop u z)
 unfolding inARow performOf
 one-unit both eop w u z =
     let k = worked (workOf (at w u)) z in
@@ -134,7 +134,7 @@ by-itself (Fetch w stage) true u z = refl
 by-itself (Fetch w stage) false u z = refl
 by-itself GiveBack eop u z = refl
 by-itself (Unit w) eop u z =
-    ap (λ (n : ℕ). unitsBy eop u (onwards (takeTurns u) (n - 1) 0 (pairOf w u) z)) (one-at-most (takeTurns u) (requestModeOf (at w u .mode)) eop)
+    ap (λ (n : ℕ). unitsBy eop u (onwards (boardOf z) (takeTurns u) (n - 1) 0 (pairOf w u) z)) (one-at-most (takeTurns u) (requestModeOf (at w u .mode)) eop)
     ∙ one-unit (takeTurns u) eop w u z
 by-itself (Hold w) eop u z = refl
 by-itself Release eop u z = refl

@@ -116,7 +116,14 @@ fn units(u: Controller, w: Which, left: u32, eop: bool, memory: &mut [u8], io: &
 {
     let both = take_turns(u, w);
     let limit = units::limit(both, u.request_mode(w), left, eop);
-    let k = units::carry_on(pair(u, w), both, limit, memory, io);
+    let k = units::carry_on(
+        board::lends(memory, io),
+        pair(u, w),
+        both,
+        limit,
+        memory,
+        io,
+    );
     let v = k.which;
     let m = k.moved;
     let rests = k.rests;

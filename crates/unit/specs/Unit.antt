@@ -6,6 +6,7 @@ use Rattle.facts.specs.First.{firstOf}
 use Rattle.space.specs.declared.Width.{Width}
 use Rattle.space.specs.declared.Width.the-variants.{Byte, Word}
 use Rattle.space.specs.Space.{Spaces}
+use Rattle.board.specs.declared.Board.{Board}
 use Rattle.comparing.specs.declared.Compared.{Compared}
 use Rattle.counting.specs.Count.{fewer, terminal}
 use Rattle.comparing.specs.Comparison.{comparison}
@@ -35,12 +36,12 @@ someOdd (x ∷ xs) = oddAt (x .width) (x .address) || someOdd xs
 unfoldable pub oddWord : Moves → Bool → Set → Bool
 oddWord m flip s = someOdd (readsOf m flip s) || someOdd (writesOf m flip s)
 
--- 7: operation 2, 3, 6, 7, A or B. 8: a word side at an odd address that it uses.
-abbrev pub unitRefusals : Mode → Set → List (Bool × ℕ)
-unitRefusals m s = (not (carried (operationOf m)), 7) ∷ (oddWord (operationOf m .moves) (isFlipped m) s, 8) ∷ []
+-- 7: operation 2, 3, 6, 7, A or B. 8: a word side at an odd address that it uses. No rule of document 01 looks at the board.
+abbrev pub unitRefusals : Board → Mode → Set → List (Bool × ℕ)
+unitRefusals b m s = (not (carried (operationOf m)), 7) ∷ (oddWord (operationOf m .moves) (isFlipped m) s, 8) ∷ []
 
-unfoldable pub unitRefusal : Mode → Set → ℕ
-unitRefusal m s = firstOf (unitRefusals m s)
+unfoldable pub unitRefusal : Board → Mode → Set → ℕ
+unitRefusal b m s = firstOf (unitRefusals b m s)
 
 -- ---- the registers
 

@@ -6,6 +6,7 @@ ghost use Rattle.comparing.specs.Comparison.{comparison};
 ghost use Rattle.unit.specs.Unit.{oddAt, oddWord, unitRefusal, whole, worked};
 use address::Address;
 use address::Set;
+use board::Board;
 use comparing::Compared;
 use mode::Mode;
 use operation::Moves;
@@ -48,8 +49,8 @@ fn is_odd_word(moves: Moves, flip: bool, s: Set) -> bool
 }
 
 // The number by which a unit is refused, or 0.
-pub fn unit_refusal(mode: Mode, s: Set) -> u8
-    ensures { λ r. ⌜ r ≡ unitRefusal mode s ⌝ }
+pub fn unit_refusal(board: Board, mode: Mode, s: Set) -> u8
+    ensures { λ r. ⌜ r ≡ unitRefusal board mode s ⌝ }
 {
     let o = mode.operation();
     let moves = o.moves;

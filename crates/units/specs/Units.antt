@@ -6,6 +6,7 @@ use mathlib.Core.Bool.{Bool, true, false, not, cond, _&&_, _||_}
 use lib.Dec.{eqb}
 use Rattle.facts.specs.Rows.{Row, Turns, inARow}
 use Rattle.space.specs.Space.{Spaces}
+use Rattle.board.specs.declared.Board.{Board}
 use Rattle.port.specs.declared.Which.{Which}
 use Rattle.port.specs.Ports.{other}
 use Rattle.mode.specs.declared.RequestMode.{RequestMode}
@@ -33,8 +34,8 @@ abbrev pub onward : Work → Moved → Work
 onward w m = record { set = m .set; mode = w .mode; pattern = w .pattern; mask = w .mask; kept = m .compared }
 
 -- The unit does not end its operation, and the next is not refused by 8.
-abbrev pub follows : Moved → Work → Bool
-follows m next = not (m .tc || m .compared .met) && eqb (unitRefusal (next .mode) (next .set)) 0
+abbrev pub follows : Board → Moved → Work → Bool
+follows b m next = not (m .tc || m .compared .met) && eqb (unitRefusal b (next .mode) (next .set)) 0
 
 -- ---- of one channel
 
@@ -43,10 +44,10 @@ pub record WorkAt : Type 0 where
   pub work : Work
   pub spaces : Spaces
 
-abbrev pub moveTurns : Turns WorkAt Worked
-moveTurns = record {
+abbrev pub moveTurns : Board → Turns WorkAt Worked
+moveTurns b = record {
   result = λ s. worked (s .work) (s .spaces);
-  follows = λ s k. follows (k .moved) (onward (s .work) (k .moved));
+  follows = λ s k. follows b (k .moved) (onward (s .work) (k .moved));
   next = λ s k. record { work = onward (s .work) (k .moved); spaces = k .spaces };
 }
 
@@ -54,8 +55,8 @@ abbrev pub movedOnAs : MovedOn → Spaces → Row Worked
 movedOnAs r z = record { last = whole (r .moved) z; count = r .units }
 
 -- With `done` units done, one, and of up to `more` each that follows.
-abbrev pub movedOn : ℕ → ℕ → Work → Spaces → Row Worked
-movedOn more done w z = inARow moveTurns more done (record { work = w; spaces = z })
+abbrev pub movedOn : Board → ℕ → ℕ → Work → Spaces → Row Worked
+movedOn b more done w z = inARow (moveTurns b) more done (record { work = w; spaces = z })
 
 -- ---- of one channel, or of both in turn
 
@@ -79,30 +80,30 @@ pub record Done : Type 0 where
   pub rests : Work
   pub unit : Worked
 
-abbrev pub unitTurns : Bool → Turns At Done
-unitTurns both = record {
+abbrev pub unitTurns : Board → Bool → Turns At Done
+unitTurns b both = record {
   result = λ s. record { which = s .pair .which; rests = s .pair .other; unit = worked (s .pair .work) (s .spaces) };
-  follows = λ s k. follows (k .unit .moved) (after both (s .pair) (k .unit .moved) .work);
+  follows = λ s k. follows b (k .unit .moved) (after both (s .pair) (k .unit .moved) .work);
   next = λ s k. record { pair = after both (s .pair) (k .unit .moved); spaces = k .unit .spaces };
 }
 
 abbrev pub carriedAs : Carried → Spaces → Row Done
 carriedAs r z = record { last = record { which = r .which; rests = r .rests; unit = whole (r .moved) z }; count = r .units }
 
-abbrev pub onwards : Bool → ℕ → ℕ → Pair → Spaces → Row Done
-onwards both more done p z = inARow (unitTurns both) more done (record { pair = p; spaces = z })
+abbrev pub onwards : Board → Bool → ℕ → ℕ → Pair → Spaces → Row Done
+onwards b both more done p z = inARow (unitTurns b both) more done (record { pair = p; spaces = z })
 
 -- ---- the same, where the other rests all the time
 
 abbrev pub resting : Which → Work → Row Worked → Row Done
 resting w k r = record { last = record { which = w; rests = k; unit = r .last }; count = r .count }
 
-pub of-one : (w : Which) (k : Work) (n j : ℕ) (x : Work) (z : Spaces) → onwards false n j (record { which = w; work = x; other = k }) z ≡ resting w k (movedOn n j x z)
+pub of-one : (b : Board) (w : Which) (k : Work) (n j : ℕ) (x : Work) (z : Spaces) → onwards b false n j (record { which = w; work = x; other = k }) z ≡ resting w k (movedOn b n j x z)
 unfolding inARow
-of-one w k zero j x z = refl
-of-one w k (suc n) j x z =
+of-one b w k zero j x z = refl
+of-one b w k (suc n) j x z =
     let d = worked x z in
-    go (follows (d .moved) (onward x (d .moved))) (of-one w k n (suc j) (onward x (d .moved)) (d .spaces))
+    go (follows b (d .moved) (onward x (d .moved))) (of-one b w k n (suc j) (onward x (d .moved)) (d .spaces))
   where
     go : (b : Bool) {a : Row Done} {c : Row Worked} → a ≡ resting w k c
         → cond b a (record { last = record { which = w; rests = k; unit = worked x z }; count = suc j }) ≡ resting w k (cond b c (record { last = worked x z; count = suc j }))
