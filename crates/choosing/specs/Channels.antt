@@ -3,7 +3,6 @@ use mathlib.Core.Bool.{Bool, not, _&&_}
 use Rattle.port.specs.declared.Which.{Which}
 use Rattle.mode.specs.Mode.{requestModeOf, isInterleave}
 use Rattle.channel.specs.declared.Channel.{Channel}
-use Rattle.channel.specs.Candidate.{isCandidate}
 use Rattle.request.specs.Request.{requests}
 use Rattle.rules.specs.declared.Choice.{Choice}
 use Rattle.rules.specs.Rules.{keeping}
@@ -15,7 +14,3 @@ keeper w c = keeping (requests (c .mode) (c .line)) (requestModeOf (c .mode)) w
 -- a unit in demand interleave, if it is a candidate
 unfoldable pub interleaves : Channel → Bool
 interleaves c = not (c .pending) && isInterleave (requestModeOf (c .mode))
-
--- a unit in demand interleave is what it would do now
-abbrev pub isInTurn : Channel → Bool
-isInTurn c = interleaves c && isCandidate c

@@ -4,7 +4,7 @@ ghost use mathlib.Core.Bool.{true};
 ghost use Rattle.facts.specs.First.{firstOf};
 ghost use Rattle.rules.specs.Rules.{isEnabled, isInterleaved, turnBy, beginning, fetchRefusals, refusedOr};
 ghost use Rattle.mode.specs.Mode.{isInterleave};
-ghost use Rattle.choosing.specs.Channels.{keeper, interleaves, isInTurn};
+ghost use Rattle.choosing.specs.Channels.{keeper, interleaves};
 use channel::Channel;
 use control::Served;
 use mode::RequestMode;
@@ -125,11 +125,4 @@ pub fn is_interleaving(c: Channel) -> bool
     ensures { λ r. ⌜ r ≡ interleaves c ⌝ }
 {
     !c.pending & is_interleave(c.mode.request_mode())
-}
-
-// Whether a unit in demand interleave is what it would do now.
-pub fn is_in_turn(c: Channel) -> bool
-    ensures { λ r. ⌜ r ≡ isInTurn c ⌝ }
-{
-    is_interleaving(c) & c.is_candidate()
 }

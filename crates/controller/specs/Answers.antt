@@ -1,7 +1,7 @@
 -- Document 01, "Which step comes next" and "Refusal numbers": an answer's number and values, as document 01 gives them.
 -- Assumes nothing.
 use Prim.Native.Nat.{ℕ}
-use mathlib.Core.Bool.{Bool, false}
+use mathlib.Core.Bool.{false}
 use Rattle.port.specs.declared.Which.{Which}
 use Rattle.port.specs.declared.Which.the-variants.{One, Two}
 use Rattle.reasons.specs.declared.Reasons.{Reasons}

@@ -1,6 +1,5 @@
 -- Document 01, "Which step comes next": what the rules ask of a controller's registers, and the choice. Assumes nothing.
 use mathlib.Core.Bool.{_&&_}
-use Rattle.port.specs.declared.Which.{Which}
 use Rattle.mode.specs.Mode.{requestModeOf}
 use Rattle.address.specs.Address.{isOdd}
 use Rattle.unit.specs.Unit.{unitRefusals}

@@ -12,14 +12,10 @@ use Rattle.channel.specs.declared.Channel.{Channel}
 use Rattle.chain.specs.declared.Loaded.{Loaded}
 use Rattle.chain.specs.Chaining.{fetchedOf, droppedOf}
 use Rattle.request.specs.Request.{requests}
-use Rattle.control.specs.declared.Chain.the-variants.{NoChain}
-use Rattle.control.specs.declared.Control.{Control}
 use Rattle.controller.specs.declared.Controller.{Controller}
 use Rattle.controller.specs.declared.Stepped.{Stepped}
-use Rattle.controller.specs.declared.FetchAnswer.{FetchAnswer}
 use Rattle.controller.specs.declared.Answer.the-variants.{Fetched, Dropped}
 use Rattle.controller.specs.Set.{_⟨control≔_⟩}
-use Rattle.control.specs.Set.{_⟨chain≔_⟩}
 use Rattle.control.specs.After.{controlFetched, droppedControl}
 use Rattle.controller.specs.Controller.{at, with}
 use Rattle.rules.specs.Rules.{isInterleaved}

@@ -1,11 +1,9 @@
 -- Document 01, "Which step comes next" and "Ending": what a step does, by what was chosen. Assumes nothing.
 use Prim.Native.Nat.{ℕ}
 use mathlib.Core.Bool.{Bool, true, false}
-use mathlib.Core.List.{List}
 use Rattle.port.specs.declared.Which.{Which}
 use Rattle.space.specs.Space.{Spaces}
 use Rattle.reasons.specs.declared.Reasons.{Reasons}
-use Rattle.mode.specs.declared.RequestMode.{RequestMode}
 use Rattle.mode.specs.Mode.{requestModeOf}
 use Rattle.reasons.specs.Reasons.{some}
 use Rattle.unit.specs.declared.Work.{Work}
@@ -14,10 +12,6 @@ use Rattle.unit.specs.Unit.{worked}
 use Rattle.channel.specs.declared.Channel.{Channel}
 use Rattle.channel.specs.declared.Ended.{Ended}
 use Rattle.channel.specs.Ending.{reasonsOf, movedBy, unended, endOf, afterUnit}
-use Rattle.reload.specs.declared.Stage.{Stage}
-use Rattle.control.specs.declared.Chain.{Chain}
-use Rattle.control.specs.declared.Bus.the-variants.{Free}
-use Rattle.control.specs.declared.Control.{Control}
 use Rattle.controller.specs.declared.Controller.{Controller}
 use Rattle.controller.specs.declared.Stepped.{Stepped}
 use Rattle.controller.specs.declared.Ran.{Ran}

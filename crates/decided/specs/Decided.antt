@@ -3,7 +3,7 @@
 use mathlib.Core.Path.{_≡_, sym, ap, _∙_}
 use mathlib.Core.List.{List}
 use Prim.Native.Nat.{ℕ}
-use Rattle.space.specs.Space.{Spaces, spaces}
+use Rattle.space.specs.Space.{spaces}
 use Rattle.controller.specs.declared.Stepped.{Stepped}
 use Rattle.controller.specs.Step.{Outcome, outcome, RunOutcome, ranAs}
 use Rattle.controller.specs.declared.Ran.{Ran}

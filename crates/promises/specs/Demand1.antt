@@ -2,7 +2,7 @@
 -- refusal is given exactly when the table says, in its order. Assumes nothing.
 use mathlib.Core.Path.{_≡_, refl, sym, ap, _∙_}
 use mathlib.Core.Bool.{Bool, true, false, not, cond, _&&_, _||_}
-use mathlib.Core.Logic.{_⊎_, inl, inr, _≢_, _↔_}
+use mathlib.Core.Logic.{_≢_}
 use mathlib.Core.List.{List, [], _∷_}
 use Prim.Native.Nat.{ℕ}
 use lib.Dec.{eqb}
@@ -25,9 +25,8 @@ use Rattle.controller.specs.declared.Controller.{Controller}
 use Rattle.reload.specs.declared.Stage.the-variants.{Reload}
 use Rattle.rules.specs.declared.Choice.{Choice}
 use Rattle.rules.specs.declared.Choice.the-variants as chosen
-use Rattle.controller.specs.declared.Answer.{Answer}
 use Rattle.controller.specs.declared.Answer.the-variants as answer
-use Rattle.controller.specs.Answers.{Paper, paper}
+use Rattle.controller.specs.Answers.{paper}
 use Rattle.controller.specs.Controller.{at}
 use Rattle.acknowledging.specs.Laws.{refused-keeps}
 use Rattle.facts.specs.First.{firstOf, Exactly, exactly}
@@ -39,22 +38,19 @@ use Rattle.rules.specs.View.Because.{as-intended, refused}
 use Rattle.controller.specs.Choice.{factsOf, faultsOf, choice}
 use Rattle.controller.specs.Laws.{Chosen, chosen as why}
 use Rattle.controller.specs.Fetching.{dropOf, fetchOf}
-use Rattle.controller.specs.Step.{Outcome, outcome, says, unitOf, holdOf, performOf, stepOf}
-use Rattle.reading.specs.declared.Reading.{Reading}
+use Rattle.controller.specs.Step.{outcome, says, unitOf, holdOf, performOf, stepOf}
 use Rattle.commanding.specs.declared.Written.{Written}
 use Rattle.reading.specs.Reading.{readBy, readOf}
 use Rattle.port.specs.Ports.{isOther}
 use Rattle.effects.specs.Effects.{cannotChain}
 use Rattle.commanding.specs.Commands.{refuses, takes, unlessBusy, isBusy, carriedOut, isReset, commandedBy, commanded}
 use Rattle.writing.specs.Writing.{writeBy, writeOf}
-use Rattle.reading.specs.Answers.{PaperRead, paperRead}
+use Rattle.reading.specs.Answers.{paperRead}
 use Rattle.commanding.specs.Answers.{paperWrite}
-use Rattle.udc.specs.declared.Lined.{Lined}
-use Rattle.acknowledging.specs.declared.Acknowledged.{Acknowledged}
 use Rattle.udc.specs.Lines.{linedAt}
 use Rattle.acknowledging.specs.Acknowledge.{interrupts, isVectorless, answered, acknowledgedAt, acknowledgeBy, acknowledgeOf}
 use Rattle.udc.specs.Answers.{paperLine}
-use Rattle.acknowledging.specs.Answers.{PaperAck, paperAck}
+use Rattle.acknowledging.specs.Answers.{paperAck}
 
 -- ---- register read
 

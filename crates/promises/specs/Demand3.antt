@@ -51,7 +51,7 @@ use Rattle.controller.specs.Laws.{chooses}
 use Rattle.rules.specs.Rules.{isEnabled, isInterleaved, turnBy}
 use Rattle.controller.specs.Step.{Outcome, workOf, unitOf, performOf, stepOf}
 use Rattle.control.specs.After.{unendedControl, controlBy}
-use Rattle.promises.specs.Machine.{Machine, left, step, answer, next-choice, channel, unit, unit-channel, unit-spaces}
+use Rattle.promises.specs.Machine.{Machine, left, step, answer, next-choice, unit, unit-channel, unit-spaces}
 
 -- ---- what the stretch starts with
 

@@ -12,7 +12,7 @@ use Rattle.port.specs.declared.Which.{Which}
 use Rattle.mode.specs.Mode.{operationOf, isFlipped}
 use Rattle.accesses.specs.Accesses.{bytes, readsOf, datumOf, datumAt}
 use Rattle.unit.specs.Unit.{movedOf, worked}
-use Rattle.unit.specs.Laws.{writesBy, writes-exactly}
+use Rattle.accesses.specs.Laws.{writesBy, writes-exactly}
 use Rattle.channel.specs.declared.Channel.{Channel}
 use Rattle.channel.specs.Ending.{afterUnit}
 use Rattle.controller.specs.declared.Controller.{Controller}

@@ -1,12 +1,10 @@
 -- What a step does to a channel and to the spaces, by whether it is a unit of that channel. For either channel. Assumes nothing.
 use mathlib.Core.Path.{_≡_, refl, sym, ap, _∙_}
 use mathlib.Core.Bool.{Bool, true, false, not, true≢false}
-use Prim.Native.Nat.{ℕ}
 use Rattle.space.specs.declared.Place.{Place}
 use Rattle.space.specs.declared.Width.the-variants.{Word}
 use Rattle.space.specs.Space.{Spaces, get, valueIn}
 use Rattle.space.specs.Bytes.{gets}
-use Rattle.space.specs.Laws.{SameSize}
 use Rattle.laws.specs.Local.{In, Agree, places, puts-keeps}
 use Rattle.port.specs.declared.Which.{Which}
 use Rattle.port.specs.declared.Which.the-variants.{One, Two}
@@ -16,7 +14,6 @@ use Rattle.mode.specs.Mode.{requestModeOf}
 use Rattle.reasons.specs.Reasons.{some}
 use Rattle.address.specs.Address.{number}
 use Rattle.unit.specs.Unit.{worked}
-use Rattle.channel.specs.declared.Channel.{Channel}
 use Rattle.request.specs.Request.{requests}
 use Rattle.channel.specs.Ending.{reasonsOf, afterUnit}
 use Rattle.chain.specs.Chaining.{fetchedOf}

@@ -1,12 +1,11 @@
 -- The console's language: the lines of `state`. Assumes nothing.
-use Prim.Native.Nat.{ℕ, _-_}
-use mathlib.Core.Bool.{Bool, true, false}
+use Prim.Native.Nat.{ℕ}
 use mathlib.Core.List.{List}
 use Rattle.port.specs.declared.Which.{Which}
 use Rattle.address.specs.declared.Address.{Address}
 use Rattle.address.specs.declared.Set.{Set}
 use Rattle.status.specs.Status.{statusWord}
-use Rattle.reload.specs.Reload.{wordsOf}
+use Rattle.reload.specs.Length.{wordsLeft}
 use Rattle.channel.specs.Ending.{flagsOf}
 use Rattle.reload.specs.declared.Stage.{Stage}
 use Rattle.reload.specs.declared.Stage.the-variants.{Reload, Entries}
@@ -31,18 +30,10 @@ unfoldable pub busOf : Bus → List ℕ
 busOf Free = bytes "0"
 busOf (Kept w) = channelOf w
 
--- the words of a table that are still to fetch, where one or two are fetched
-unfoldable pub fetchedOf : Bool → ℕ
-fetchedOf true = 2
-fetchedOf false = 1
-
-unfoldable pub wordsLeft : ℕ → Bool → ℕ
-wordsLeft left second = wordsOf left - fetchedOf second
-
 -- `chain`: 0 where none is under way, `start` where the reload word is fetched next, or the words still to fetch
 unfoldable pub stageOf : Stage → List ℕ
 stageOf Reload = bytes " start"
-stageOf (Entries p) = bytes " " ⧺ decimalOf (wordsLeft (p .left) (p .second))
+stageOf (Entries p) = bytes " " ⧺ decimalOf (wordsLeft p)
 
 unfoldable pub chainOf : Chain → List ℕ
 chainOf NoChain = bytes "0"

@@ -1,8 +1,10 @@
 // The lines of the state.
 ghost use mathlib.Core.Path.{_≡_};
+ghost use mathlib.Core.Bool.{cond};
 ghost use mathlib.Core.List.{_++_};
+ghost use Rattle.reload.specs.Length.{wordsLeft};
 ghost use Rattle.text.specs.Text.{written, appended, line, channelOf};
-ghost use Rattle.showing.specs.State.{servedOf, busOf, fetchedOf, wordsLeft, stageOf, chainOf, wordsText, controllerOf, twoWords, addressOf, setOf, currentOf, baseOf, comparedOf, modesOf, statusLine};
+ghost use Rattle.showing.specs.State.{servedOf, busOf, stageOf, chainOf, wordsText, controllerOf, twoWords, addressOf, setOf, currentOf, baseOf, comparedOf, modesOf, statusLine};
 use address::Address;
 use address::Set;
 use control::Bus;
@@ -10,6 +12,7 @@ use control::Chain;
 use control::Served;
 use controller::Controller;
 use port::Which;
+use reload::Progress;
 use reload::Stage;
 use text::Text;
 
@@ -34,7 +37,7 @@ fn keeper(t: Text, b: Bus) -> Text
 }
 
 fn fetched(second: bool) -> u32
-    ensures { λ r. ⌜ r ≡ fetchedOf second ⌝ }
+    ensures { λ r. ⌜ r ≡ cond second 2 1 ⌝ }
 {
     if second {
         return 2;
@@ -43,11 +46,11 @@ fn fetched(second: bool) -> u32
 }
 
 // The words of a chain that are still to fetch: those of its table less the ones that were fetched.
-fn words_left(left: u16, second: bool) -> u32
-    ensures { λ r. ⌜ r ≡ wordsLeft left second ⌝ }
+fn words_left(p: Progress) -> u32
+    ensures { λ r. ⌜ r ≡ wordsLeft p ⌝ }
 {
-    let all = reload::words(left);
-    let gone = fetched(second);
+    let all = reload::words(p.left);
+    let gone = fetched(p.second);
     if all < gone {
         return 0;
     }
@@ -59,7 +62,7 @@ fn stage(t: Text, s: Stage) -> Text
 {
     match s {
         Stage::Reload => t.with(b" start"),
-        Stage::Entries(p) => t.with(b" ").decimal(words_left(p.left, p.second) as u64),
+        Stage::Entries(p) => t.with(b" ").decimal(words_left(p) as u64),
     }
 }
 

@@ -1,9 +1,9 @@
 -- Document 01, "Moving a unit": how an address steps. Assumes nothing.
 use Prim.Native.Nat.{ℕ, _+_, _-_, _%_}
 use mathlib.Core.Bool.{Bool, cond}
+use lib.Dec.{eqb}
 use Rattle.space.specs.declared.Width.{Width}
 use Rattle.space.specs.declared.Width.the-variants.{Byte, Word}
-use lib.Dec.{eqb}
 
 -- Memory bytes by 1, words and all I/O by 2.
 abbrev pub stride : Bool → Width → ℕ

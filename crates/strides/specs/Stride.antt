@@ -12,13 +12,14 @@ use Rattle.units.specs.declared.Pair.{Pair}
 use Rattle.units.specs.Units.{limitOf, Done, onwards}
 use Rattle.port.specs.Ports.{other}
 use Rattle.channel.specs.declared.Channel.{Channel}
+use Rattle.channel.specs.Candidate.{isCandidate}
 use Rattle.channel.specs.Ending.{movedBy}
 use Rattle.reload.specs.declared.Stage.{Stage}
 use Rattle.fetches.specs.Fetches.{fetchesOf}
 use Rattle.rules.specs.declared.Choice.{Choice}
 use Rattle.rules.specs.declared.Choice.the-variants.{Disabled, Refused, Fetch, GiveBack, Unit, Hold, Release, Idle}
 use Rattle.rules.specs.Rules.{isInterleaved}
-use Rattle.choosing.specs.Channels.{isInTurn}
+use Rattle.choosing.specs.Channels.{interleaves}
 use Rattle.controller.specs.declared.Controller.{Controller}
 use Rattle.controller.specs.declared.Stepped.{Stepped}
 use Rattle.controller.specs.declared.Ran.{Ran}
@@ -32,6 +33,10 @@ abbrev pub once : Stepped → Ran
 once s = record { state = s .state; answer = s .answer; steps = 1 }
 
 -- ---- units that follow each other
+
+-- a unit in demand interleave is what the channel would do now
+abbrev pub isInTurn : Channel → Bool
+isInTurn c = interleaves c && isCandidate c
 
 -- Two such channels take turns; CPU interleave set would give the bus back between them.
 unfoldable pub takeTurns : Controller → Bool

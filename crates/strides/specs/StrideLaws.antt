@@ -1,15 +1,12 @@
 -- A unit or a word that follows another is the step that comes next, and leaves what it leaves by itself. Assumes nothing.
-use Prim.Native.Nat.{ℕ, _-_}
-use mathlib.Core.Path.{_≡_, refl, sym, ap, subst, _∙_}
-use mathlib.Core.Bool.{Bool, true, false, not, cond, _&&_, _||_, true≢false}
+use mathlib.Core.Path.{_≡_, refl, sym, ap, _∙_}
+use mathlib.Core.Bool.{Bool, true, false, _&&_, _||_, true≢false}
 use Rattle.port.specs.declared.Which.{Which}
 use Rattle.port.specs.declared.Which.the-variants.{One, Two}
 use Rattle.space.specs.Space.{Spaces}
-use Rattle.mode.specs.declared.RequestMode.{RequestMode}
-use Rattle.mode.specs.Mode.{requestModeOf}
 use Rattle.unit.specs.Unit.{worked}
 use Rattle.facts.specs.Rows.{inARow}
-use Rattle.units.specs.Units.{isDedicated, limitOf, onwards}
+use Rattle.units.specs.Units.{onwards}
 use Rattle.port.specs.Ports.{other}
 use Rattle.channel.specs.declared.Channel.{Channel}
 use Rattle.channel.specs.Candidate.{isCandidate}
@@ -23,8 +20,7 @@ use Rattle.reload.specs.declared.Next.the-variants.{More, Complete}
 use Rattle.chain.specs.declared.Loaded.{Loaded}
 use Rattle.control.specs.declared.Chain.the-variants.{Of}
 use Rattle.control.specs.declared.Control.{Control}
-use Rattle.rules.specs.declared.Choice.{Choice}
-use Rattle.rules.specs.declared.Choice.the-variants.{Disabled, Refused, Fetch, GiveBack, Unit, Hold, Release, Idle}
+use Rattle.rules.specs.declared.Choice.the-variants.{Fetch, Unit}
 use Rattle.rules.specs.Rules.{isEnabled, isInterleaved}
 use Rattle.control.specs.Set.{_⟨chain≔_⟩}
 use Rattle.control.specs.After.{controlFetched}
@@ -39,9 +35,9 @@ use Rattle.rules.specs.View.Intends.{goes-on, keeps, begins-chain, begins-unit}
 use Rattle.rules.specs.View.Because.{as-intended}
 use Rattle.controller.specs.Choice.{factsOf, choice}
 use Rattle.controller.specs.Laws.{at-of, control-of, master-of, with-again, Chosen, chosen-at, chooses, is-candidate}
-use Rattle.controller.specs.Fetching.{fetchedBy, fetchOf}
-use Rattle.controller.specs.Step.{outcome, RunOutcome, workOf, unitOf, performOf, stepOf}
-use Rattle.strides.specs.Stride.{takeTurns, pairOf, rested, unitsBy, single, strideBy, strideOf}
+use Rattle.controller.specs.Fetching.{fetchedBy}
+use Rattle.controller.specs.Step.{outcome, workOf, unitOf, performOf}
+use Rattle.strides.specs.Stride.{pairOf, rested, unitsBy, single}
 
 -- ---- what is true where a unit comes next
 
@@ -118,28 +114,3 @@ unfolding inARow performOf
 one-unit both eop w u z =
     let k = worked (workOf (at w u)) z in
     ap (λ (v : Controller). single (outcome (unitOf w eop v (k .moved)) (k .spaces))) (unrested (other w) u)
-
-one-at-most : (both : Bool) (r : RequestMode) (eop : Bool) → limitOf both r 1 eop ≡ 1
-one-at-most both r eop = go (not eop && (both || isDedicated r))
-  where
-    go : (b : Bool) → _≡_ {A = ℕ} (cond b 1 1) 1
-    go true = refl
-    go false = refl
-
-by-itself : (c : Choice) (eop : Bool) (u : Controller) (z : Spaces) → strideBy c 1 eop u z ≡ single (performOf c eop u z)
-unfolding strideBy inARow performOf fetchOf
-by-itself Disabled eop u z = refl
-by-itself (Refused n) eop u z = refl
-by-itself (Fetch w stage) true u z = refl
-by-itself (Fetch w stage) false u z = refl
-by-itself GiveBack eop u z = refl
-by-itself (Unit w) eop u z =
-    ap (λ (n : ℕ). unitsBy eop u (onwards (boardOf z) (takeTurns u) (n - 1) 0 (pairOf w u) z)) (one-at-most (takeTurns u) (requestModeOf (at w u .mode)) eop)
-    ∙ one-unit (takeTurns u) eop w u z
-by-itself (Hold w) eop u z = refl
-by-itself Release eop u z = refl
-by-itself Idle eop u z = refl
-
-pub alone : (eop : Bool) (u : Controller) (z : Spaces) → strideOf 1 eop u z .last ≡ stepOf eop u z
-unfolding strideOf stepOf
-alone eop u z = ap (λ (s : RunOutcome). s .last) (by-itself (choice (boardOf z) u) eop u z)

@@ -6,7 +6,8 @@ ghost use mathlib.Core.Bool.{cond};
 ghost use Rattle.space.specs.Space.{spaces};
 ghost use Rattle.port.specs.Ports.{other};
 ghost use Rattle.controller.specs.Step.{ranAs, holdOf};
-ghost use Rattle.strides.specs.Stride.{once, takeTurns, pairOf, rested, fetchesBy, strideBy, strideOf};
+ghost use Rattle.strides.specs.Stride.{once, isInTurn, takeTurns, pairOf, rested, fetchesBy, strideBy, strideOf};
+use channel::Channel;
 use control::Back;
 use controller::Answer;
 use controller::Controller;
@@ -41,14 +42,20 @@ fn fetch(u: Controller, w: Which, stage: Stage, left: u32, eop: bool, memory: &[
     }
 }
 
+// Whether a unit in demand interleave is what the channel would do now.
+fn is_in_turn(c: Channel) -> bool
+    ensures { λ r. ⌜ r ≡ isInTurn c ⌝ }
+{
+    choosing::is_interleaving(c) & c.is_candidate()
+}
+
 // Two channels in demand interleave take turns; CPU interleave set would give the bus back between them. The mode of the one that
 // comes first is looked at first, since it mostly tells.
 fn take_turns(u: Controller, w: Which) -> bool
     ensures { λ r. ⌜ r ≡ takeTurns u ⌝ }
 {
     if choosing::is_interleave(u.request_mode(w)) {
-        return !choosing::is_interleaved(u.master)
-            & (choosing::is_in_turn(u.one) & choosing::is_in_turn(u.two));
+        return !choosing::is_interleaved(u.master) & (is_in_turn(u.one) & is_in_turn(u.two));
     }
     false
 }

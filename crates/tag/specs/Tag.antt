@@ -20,7 +20,7 @@ isNormal w = eqb (w / 128 % 2) 1
 abbrev pub isMemory : ℕ → Bool
 isMemory w = eqb (w / 64 % 2) 1
 
--- Step: 0 up, 1 down, 2 and 3 hold.
+-- The step field, and the direction that it names.
 abbrev pub stepOf : ℕ → ℕ
 stepOf w = w / 8 % 4
 

@@ -1,9 +1,7 @@
-use Rattle.showing.specs.State.{fetchedOf}
 use Rattle.showing.proofs.fetched.Statement.{statement}
 use Rattle.showing.proofs.fetched.Tie as tie
 
 pub fetched-spec : {M : Type 1} → statement M
-unfolding fetchedOf
 fetched-spec =
     tie.close
     (tie.spec

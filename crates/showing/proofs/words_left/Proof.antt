@@ -1,10 +1,8 @@
 use borrow.Author.Needs.{needs}
-use Rattle.showing.specs.State.{wordsLeft}
 use Rattle.showing.proofs.words_left.Statement.{statement}
 use Rattle.showing.proofs.words_left.Tie as tie
 
 pub words-left-spec : {M : Type 1} → statement M
-unfolding wordsLeft
 words-left-spec =
     tie.close
     (tie.spec

@@ -1,6 +1,6 @@
 use borrow.Author.Needs.{needs}
-use Rattle.choosing.proofs.is_in_turn.Statement.{statement}
-use Rattle.choosing.proofs.is_in_turn.Tie as tie
+use Rattle.strides.proofs.is_in_turn.Statement.{statement}
+use Rattle.strides.proofs.is_in_turn.Tie as tie
 
 pub is-in-turn-spec : {M : Type 1} → statement M
 is-in-turn-spec =
