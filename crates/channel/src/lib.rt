@@ -14,21 +14,22 @@ use request::Line;
 use status::Flags;
 use unit::Moved;
 
+// Its flags stand beside the status bits that no fetch changes: so a chain's loop moves them in one piece.
 pub struct Interrupt {
+    pub vector: u8,
+    pub save: u16,
     pub cie: bool,
     pub ip: bool,
     pub sip: bool,
-    pub vector: u8,
-    pub save: u16,
 }
 
 // The status bits that are kept; the word's other bits are read from elsewhere.
 pub struct Status {
-    pub ca: bool,
-    pub nac: bool,
     pub mch: bool,
     pub mcl: bool,
     pub why: Reasons,
+    pub ca: bool,
+    pub nac: bool,
 }
 
 pub struct Channel {
