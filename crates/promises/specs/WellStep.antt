@@ -1,7 +1,8 @@
 -- Promise D1d: a step keeps the controller well formed, and so does a run. Assumes nothing.
 use mathlib.Core.Path.{_≡_, refl, sym, ap, _∙_, subst}
-use mathlib.Core.Bool.{Bool, true, false, not, cond, _&&_, _||_, true≢false}
+use mathlib.Core.Bool.{Bool, true, false, cond, _||_, true≢false}
 use mathlib.Core.List.{List}
+use mathlib.Core.Logic.{_⊎_, inl, inr}
 use Prim.Native.Nat.{ℕ, zero, suc}
 use lib.Dec.{ltb}
 use Rattle.space.specs.declared.Width.the-variants.{Word}
@@ -20,6 +21,7 @@ use Rattle.channel.specs.declared.Ended.{Ended}
 use Rattle.channel.specs.Set.{_⟨pending≔_⟩}
 use Rattle.channel.specs.Candidate.{isCandidate}
 use Rattle.request.specs.Request.{requests}
+use Rattle.request.specs.Candidate.{candidateOf, Ready, candidate-exactly}
 use Rattle.channel.specs.Ending.{endOf, movedBy, unendedBy, unended, reasonsOf, afterBy, afterUnit}
 use Rattle.reload.specs.declared.Stage.{Stage}
 use Rattle.reload.specs.declared.Stage.the-variants.{Entries}
@@ -86,13 +88,12 @@ unpending : {sip ca nac pending : Bool} → ClearFlags sip ca nac pending → Cl
 unpending h = record { no-sip = h .no-sip; no-ca = h .no-ca; no-nac = h .no-nac; no-pending = refl }
 
 -- a candidate without a chain pending has NAC, SIP and CA clear
-able : (p r n s a : Bool) → p || (r && ((not n && not s) && not a)) ≡ true → p ≡ false → ClearFlags s a n p
-able true r n s a e q = no q refl
-able false true false false false e q = record { no-sip = refl; no-ca = refl; no-nac = refl; no-pending = refl }
-able false true false false true e q = no refl e
-able false true false true a e q = no refl e
-able false true true s a e q = no refl e
-able false false n s a e q = no refl e
+able : (p r n s a : Bool) → candidateOf p r n s a ≡ true → p ≡ false → ClearFlags s a n p
+able p r n s a e q = go (candidate-exactly p r n s a .0 e)
+  where
+    go : (p ≡ true) ⊎ Ready r n s a → ClearFlags s a n p
+    go (inl t) = no q t
+    go (inr k) = record { no-sip = k .no-sip; no-ca = k .no-ca; no-nac = k .no-nac; no-pending = q }
 
 module _ (u : Controller) (h : WellFormed u) where
   abbrev Owns : Chain → Bus → Type 0
