@@ -2,19 +2,19 @@
 use Prim.Native.Nat.{ℕ, _%_}
 use mathlib.Core.Bool.{Bool, true, false, not, cond, _&&_}
 use lib.Dec.{eqb}
-use Rattle.tag.specs.Tag.{keptChain}
-use Rattle.address.specs.Address.{fetchedOn}
-use Rattle.reload.specs.declared.Entry.{Entry}
-use Rattle.reload.specs.declared.Entry.the-variants.{CurrentA, CurrentB, CurrentCount, BaseA, BaseB, BaseCount, PatternAndMask, Vector, Mode, ChainAddress, Nothing}
-use Rattle.reload.specs.Reload.{entryOf, restOf, isPair}
+use Rattle.word_tag.specs.Tag.{keptChain}
+use Rattle.word_address.specs.Address.{fetchedOn}
+use Rattle.word_reload.specs.declared.Entry.{Entry}
+use Rattle.word_reload.specs.declared.Entry.the-variants.{CurrentA, CurrentB, CurrentCount, BaseA, BaseB, BaseCount, PatternAndMask, Vector, Mode, ChainAddress, Nothing}
+use Rattle.word_reload.specs.Reload.{entryOf, restOf, isPair}
 use Rattle.channel.specs.declared.Channel.{Channel}
 use Rattle.channel.specs.Set.{_⟨chain≔_⟩, _⟨status≔_⟩, _⟨ca≔_⟩, _⟨nac≔_⟩, _⟨line≔_⟩, _⟨change≔_⟩, _⟨pending≔_⟩}
-use Rattle.loading.specs.Loading.{loaded}
-use Rattle.reload.specs.declared.Progress.{Progress}
-use Rattle.reload.specs.declared.Stage.{Stage}
-use Rattle.reload.specs.declared.Stage.the-variants.{Reload, Entries}
-use Rattle.reload.specs.declared.Next.{Next}
-use Rattle.reload.specs.declared.Next.the-variants.{More, Complete}
+use Rattle.channel_loading.specs.Loading.{loaded}
+use Rattle.word_reload.specs.declared.Progress.{Progress}
+use Rattle.word_reload.specs.declared.Stage.{Stage}
+use Rattle.word_reload.specs.declared.Stage.the-variants.{Reload, Entries}
+use Rattle.word_reload.specs.declared.Next.{Next}
+use Rattle.word_reload.specs.declared.Next.the-variants.{More, Complete}
 use Rattle.chain.specs.declared.Loaded.{Loaded}
 
 -- Each fetch adds 2.

@@ -1,2 +1,1 @@
 pub mod Chaining
-pub mod Length

@@ -1,12 +1,12 @@
 // A chain's word: what it loads, and what the chain fetches after it.
 ghost use mathlib.Core.Path.{_≡_};
-ghost use Rattle.reload.specs.declared.Entry.the-variants.{ChainAddress};
+ghost use Rattle.word_reload.specs.declared.Entry.the-variants.{ChainAddress};
 ghost use Rattle.chain.specs.Chaining.{isChainAddress, advanced, nextOf, loadReload, afterRegister, loadEntry, loadOf, settledBy, fetchedOf, droppedOf};
 use channel::Channel;
-use reload::Entry;
-use reload::Next;
-use reload::Progress;
-use reload::Stage;
+use word_reload::Entry;
+use word_reload::Next;
+use word_reload::Progress;
+use word_reload::Stage;
 
 pub struct Loaded {
     pub channel: Channel,
@@ -71,7 +71,7 @@ fn load_address(p: Progress, w: u16, mut c: Channel) -> Loaded
         c.chain.lower = w;
         return Loaded {
             channel: c,
-            next: what_next(reload::rest(p.left)),
+            next: what_next(word_reload::rest(p.left)),
         };
     }
     Loaded {
@@ -79,7 +79,7 @@ fn load_address(p: Progress, w: u16, mut c: Channel) -> Loaded
         next: Next::More(Progress {
             left: p.left,
             second: true,
-            upper: tag::kept_chain(w),
+            upper: word_tag::kept_chain(w),
         }),
     }
 }
@@ -95,7 +95,7 @@ fn after_register(e: Entry, p: Progress) -> Next
             upper: 0,
         })
     } else {
-        what_next(reload::rest(p.left))
+        what_next(word_reload::rest(p.left))
     }
 }
 
@@ -107,7 +107,7 @@ fn load_entry(e: Entry, p: Progress, w: u16, c: Channel) -> Loaded
         return load_address(p, w, c);
     }
     Loaded {
-        channel: loading::load(e, p.second, w, advance(c)),
+        channel: channel_loading::load(e, p.second, w, advance(c)),
         next: after_register(e, p),
     }
 }
@@ -117,7 +117,7 @@ fn load(stage: Stage, w: u16, c: Channel) -> Loaded
 {
     match stage {
         Stage::Reload => load_reload(w, c),
-        Stage::Entries(p) => load_entry(reload::next_entry(p.left), p, w, c),
+        Stage::Entries(p) => load_entry(word_reload::next_entry(p.left), p, w, c),
     }
 }
 

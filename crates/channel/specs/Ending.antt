@@ -2,13 +2,13 @@
 use mathlib.Core.Bool.{Bool, true, false, cond, _||_}
 use Rattle.port.specs.declared.Which.{Which}
 use Rattle.port.specs.declared.Which.the-variants.{One, Two}
-use Rattle.reasons.specs.declared.Reasons.{Reasons}
-use Rattle.mode.specs.declared.RequestMode.{RequestMode}
-use Rattle.mode.specs.declared.RequestMode.the-variants.{Single, DemandHold, DemandRelease, DemandInterleave}
-use Rattle.mode.specs.Mode.{requestModeOf, isRequested, isMasked, withRequest, interruptOf, reloadOf, chainOf}
-use Rattle.reasons.specs.Reasons.{some, enabledFor}
-use Rattle.status.specs.declared.Flags.{Flags}
-use Rattle.status.specs.Status.{saveWord}
+use Rattle.word_mode.specs.declared.Reasons.{Reasons}
+use Rattle.word_mode.specs.declared.RequestMode.{RequestMode}
+use Rattle.word_mode.specs.declared.RequestMode.the-variants.{Single, DemandHold, DemandRelease, DemandInterleave}
+use Rattle.word_mode.specs.Mode.{requestModeOf, isRequested, isMasked, withRequest, interruptOf, reloadOf, chainOf}
+use Rattle.word_mode.specs.Reasons.{some, enabledFor}
+use Rattle.word_status.specs.declared.Flags.{Flags}
+use Rattle.word_status.specs.Status.{saveWord}
 use Rattle.channel.specs.declared.Channel.{Channel}
 use Rattle.unit.specs.declared.Moved.{Moved}
 use Rattle.channel.specs.declared.Ended.{Ended}

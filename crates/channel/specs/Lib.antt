@@ -1,5 +1,4 @@
 pub mod Set
 pub mod Candidate
 pub mod Ending
-pub mod EndingLaws
 pub mod Reset

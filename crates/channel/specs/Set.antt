@@ -1,14 +1,14 @@
 -- The record with one field anew, for each field of each record. Generated from src/.
 use Prim.Native.Nat.{ℕ}
 use mathlib.Core.Bool.{Bool}
-use Rattle.address.specs.declared.Address.{Address}
+use Rattle.word_address.specs.declared.Address.{Address}
 use Rattle.channel.specs.declared.Channel.{Channel}
 use Rattle.channel.specs.declared.Ended.{Ended}
 use Rattle.channel.specs.declared.Interrupt.{Interrupt}
-use Rattle.request.specs.declared.Line.{Line}
-use Rattle.mode.specs.declared.Mode.{Mode}
-use Rattle.reasons.specs.declared.Reasons.{Reasons}
-use Rattle.address.specs.declared.Set.{Set}
+use Rattle.channel_request.specs.declared.Line.{Line}
+use Rattle.word_mode.specs.declared.Mode.{Mode}
+use Rattle.word_mode.specs.declared.Reasons.{Reasons}
+use Rattle.word_address.specs.declared.Set.{Set}
 use Rattle.channel.specs.declared.Status.{Status}
 
 infixl 90 _⟨cie≔_⟩

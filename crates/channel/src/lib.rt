@@ -1,18 +1,18 @@
 // A channel: its registers, its request and its end.
 ghost use mathlib.Core.Path.{_≡_};
-ghost use Rattle.mode.specs.Mode.{isRequested};
+ghost use Rattle.word_mode.specs.Mode.{isRequested};
 ghost use Rattle.channel.specs.Candidate.{isCandidate};
 ghost use Rattle.channel.specs.Ending.{flagsOf, isTwo, saved, withIp, flagged, interrupted, finished, endOf, movedBy, spent, unended};
 ghost use Rattle.channel.specs.Reset.{resetChannel};
-use address::Address;
-use address::Set;
-use mode::Mode;
-use mode::RequestMode;
+use channel_request::Line;
 use port::Which;
-use reasons::Reasons;
-use request::Line;
-use status::Flags;
 use unit::Moved;
+use word_address::Address;
+use word_address::Set;
+use word_mode::Mode;
+use word_mode::Reasons;
+use word_mode::RequestMode;
+use word_status::Flags;
 
 // Its flags stand beside the status bits that no fetch changes: so a chain's loop moves them in one piece.
 pub struct Interrupt {
@@ -64,7 +64,7 @@ impl Channel {
     pub fn is_candidate(self) -> bool
         ensures { λ r. ⌜ r ≡ isCandidate self ⌝ }
     {
-        let requesting = request::is_requesting(self.mode, self.line);
+        let requesting = channel_request::is_requesting(self.mode, self.line);
         self.pending | (requesting & ((!self.status.nac & !self.interrupt.sip) & !self.status.ca))
     }
 

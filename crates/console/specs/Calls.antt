@@ -1,17 +1,17 @@
 -- What each host call that a line names leaves, by the model's own definitions. Assumes nothing.
 use Rattle.space.specs.Space.{Spaces}
-use Rattle.controller.specs.declared.Controller.{Controller}
-use Rattle.controller.specs.Step.{stepOf}
-use Rattle.pointer.specs.Pointer.{pointed}
-use Rattle.writing.specs.Writing.{writeOf}
-use Rattle.udc.specs.Reset.{resetOf}
-use Rattle.udc.specs.Lines.{linedAt}
-use Rattle.acknowledging.specs.Acknowledge.{acknowledgeOf}
-use Rattle.running.specs.Run.{runOf}
-use Rattle.lines.specs.declared.Call.{Call}
-use Rattle.lines.specs.declared.Call.the-variants.{Reset, WritePointer, ReadPointer, Write, Read, Set, Get, Line, Acknowledge}
-use Rattle.lines.specs.declared.Advance.{Advance}
-use Rattle.lines.specs.declared.Advance.the-variants.{Step, Run}
+use Rattle.step.specs.declared.Controller.{Controller}
+use Rattle.step.specs.Step.{stepOf}
+use Rattle.call_pointer.specs.Pointer.{pointed}
+use Rattle.call_write.specs.Writing.{writeOf}
+use Rattle.call_reset.specs.Reset.{resetOf}
+use Rattle.call_line.specs.Lines.{linedAt}
+use Rattle.call_acknowledge.specs.Acknowledge.{acknowledgeOf}
+use Rattle.call_run.specs.Run.{runOf}
+use Rattle.console_line.specs.declared.Call.{Call}
+use Rattle.console_line.specs.declared.Call.the-variants.{Reset, WritePointer, ReadPointer, Write, Read, Set, Get, Line, Acknowledge}
+use Rattle.console_line.specs.declared.Advance.{Advance}
+use Rattle.console_line.specs.declared.Advance.the-variants.{Step, Run}
 
 -- The calls that reach the controller alone.
 unfoldable pub callOf : Call → Controller → Controller
@@ -26,14 +26,14 @@ callOf (Line c active) u = linedAt c active u .state
 callOf Acknowledge u = acknowledgeOf u .state
 
 -- The controller and both spaces.
-pub record Left : Type 0 where
+pub record BenchLeft : Type 0 where
   pub state : Controller
   pub spaces : Spaces
 
-abbrev pub leaves : Controller → Spaces → Left
+abbrev pub leaves : Controller → Spaces → BenchLeft
 leaves u z = record { state = u; spaces = z }
 
-unfoldable pub advanceOf : Advance → Controller → Spaces → Left
+unfoldable pub advanceOf : Advance → Controller → Spaces → BenchLeft
 advanceOf (Step eop) u z =
     let o = stepOf eop u z in
     leaves (o .stepped .state) (o .spaces)

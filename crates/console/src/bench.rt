@@ -2,18 +2,18 @@
 ghost use Prim.Native.Nat.{_≤_, _-_};
 ghost use mathlib.Core.Path.{_≡_};
 ghost use Rattle.space.specs.Space.{spaces};
-ghost use Rattle.writing.specs.Writing.{writeOf};
-ghost use Rattle.udc.specs.Reset.{freshOf};
-ghost use Rattle.udc.specs.Lines.{linedAt};
-ghost use Rattle.acknowledging.specs.Acknowledge.{acknowledgeOf};
+ghost use Rattle.call_write.specs.Writing.{writeOf};
+ghost use Rattle.call_reset.specs.Reset.{freshOf};
+ghost use Rattle.call_line.specs.Lines.{linedAt};
+ghost use Rattle.call_acknowledge.specs.Acknowledge.{acknowledgeOf};
 ghost use Rattle.console.specs.Calls.{callOf, leaves, advanceOf};
 use crate::print;
-use controller::Controller;
-use lines::Advance;
-use lines::Call;
-use lines::Input;
-use lines::Request;
-use lines::Space;
+use console_line::Advance;
+use console_line::Call;
+use console_line::Input;
+use console_line::LentSpace;
+use console_line::Request;
+use step::Controller;
 
 // The controller, and how many bytes of each space are lent.
 pub struct Bench {
@@ -26,7 +26,7 @@ pub fn new_bench() -> Bench
     ensures { λ r. ⌜ r .controller ≡ freshOf ⌝ }
 {
     Bench {
-        controller: udc::fresh(),
+        controller: call_reset::fresh(),
         memory: 65536,
         io: 4096,
     }
@@ -76,7 +76,7 @@ fn show(s: &[u8], at: u32, n: u32) {
     while i < shown {
         let k = least(shown - i, 16);
         let start = from + i;
-        print::line(phrases::row(start, &s[start..start + k]));
+        print::line(console_message::row(start, &s[start..start + k]));
         i += 16;
     }
 }
@@ -86,31 +86,31 @@ fn show(s: &[u8], at: u32, n: u32) {
 fn write(w: u16, u: Controller) -> Controller
     ensures { λ r. ⌜ r ≡ writeOf w u .state ⌝ }
 {
-    let written = writing::write(w, u);
+    let written = call_write::write(w, u);
     let answer = written.answer;
-    print::line(wording::write(answer));
+    print::line(console_answer::write(answer));
     written.state
 }
 
 fn read(u: Controller) {
-    print::line(wording::read(reading::read(u)));
+    print::line(console_answer::read(call_read::read(u)));
 }
 
 fn line(c: u8, active: bool, u: Controller) -> Controller
     ensures { λ r. ⌜ r ≡ linedAt c active u .state ⌝ }
 {
-    let lined = udc::line(c, active, u);
+    let lined = call_line::line(c, active, u);
     let answer = lined.answer;
-    print::line(wording::line(c, active, answer));
+    print::line(console_answer::line(c, active, answer));
     lined.state
 }
 
 fn acknowledge(u: Controller) -> Controller
     ensures { λ r. ⌜ r ≡ acknowledgeOf u .state ⌝ }
 {
-    let given = acknowledging::acknowledge(u);
+    let given = call_acknowledge::acknowledge(u);
     let answer = given.answer;
-    print::line(wording::acknowledge(answer));
+    print::line(console_answer::acknowledge(answer));
     given.state
 }
 
@@ -120,16 +120,16 @@ fn make(call: Call, u: Controller) -> Controller
 {
     match call {
         Call::Reset => {
-            print::line(phrases::reset());
-            udc::reset(u)
+            print::line(console_message::reset());
+            call_reset::reset(u)
         }
         Call::WritePointer(w) => {
-            let next = pointer::write_pointer(u, w);
-            print::line(phrases::pointer(next.pointer));
+            let next = call_pointer::write_pointer(u, w);
+            print::line(console_message::pointer(next.pointer));
             next
         }
         Call::ReadPointer => {
-            print::line(phrases::pointer(u.pointer));
+            print::line(console_message::pointer(u.pointer));
             u
         }
         Call::Write(w) => write(w, u),
@@ -137,9 +137,9 @@ fn make(call: Call, u: Controller) -> Controller
             read(u);
             u
         }
-        Call::Set(p, w) => write(w, pointer::write_pointer(u, p)),
+        Call::Set(p, w) => write(w, call_pointer::write_pointer(u, p)),
         Call::Get(p) => {
-            let next = pointer::write_pointer(u, p);
+            let next = call_pointer::write_pointer(u, p);
             read(next);
             next
         }
@@ -156,13 +156,13 @@ fn go(advance: Advance, u: Controller, memory: &mut [u8], io: &mut [u8]) -> Cont
         Advance::Step(eop) => {
             let stepped = u.step(eop, memory, io);
             let a = stepped.answer;
-            print::line(wording::step(a));
+            print::line(console_answer::step(a));
             stepped.state
         }
         Advance::Run(n) => {
-            let ran = running::run(u, n, memory, io);
+            let ran = call_run::run(u, n, memory, io);
             let a = ran.answer;
-            print::line(wording::run(ran.steps, a));
+            print::line(console_answer::run(ran.steps, a));
             ran.state
         }
     }
@@ -170,25 +170,30 @@ fn go(advance: Advance, u: Controller, memory: &mut [u8], io: &mut [u8]) -> Cont
 
 // ---- a line
 
-fn poke(space: Space, at: u32, n: usize, bytes: &[u8; 64], memory: &mut [u8], io: &mut [u8]) {
+fn poke(space: LentSpace, at: u32, n: usize, bytes: &[u8; 64], memory: &mut [u8], io: &mut [u8]) {
     match space {
-        Space::Memory => print::line(phrases::poked(store(memory, at as usize, n, bytes))),
-        Space::Io => print::line(phrases::poked(store(io, at as usize, n, bytes))),
+        LentSpace::Memory => print::line(console_message::poked(store(
+            memory,
+            at as usize,
+            n,
+            bytes,
+        ))),
+        LentSpace::Io => print::line(console_message::poked(store(io, at as usize, n, bytes))),
     }
 }
 
-fn peek(space: Space, at: u32, n: u32, memory: &[u8], io: &[u8]) {
+fn peek(space: LentSpace, at: u32, n: u32, memory: &[u8], io: &[u8]) {
     match space {
-        Space::Memory => show(memory, at, n),
-        Space::Io => show(io, at, n),
+        LentSpace::Memory => show(memory, at, n),
+        LentSpace::Io => show(io, at, n),
     }
 }
 
 // What is told of a line that makes no call and reaches no space.
 fn tell(request: Request, number: u64, u: Controller) {
     match request {
-        Request::Unreadable => print::line(phrases::not_understood(number)),
-        Request::TooLarge => print::line(phrases::too_large(number)),
+        Request::Unreadable => print::line(console_message::not_understood(number)),
+        Request::TooLarge => print::line(console_message::too_large(number)),
         Request::State => print::state(u),
         Request::Help => print::help(),
         _ => {}
@@ -222,14 +227,14 @@ fn serve(
     }
 }
 
-fn lend(space: Space, n: u32, b: Bench, memory: &mut [u8], io: &mut [u8]) -> Bench {
-    print::line(phrases::lent(space, n));
+fn lend(space: LentSpace, n: u32, b: Bench, memory: &mut [u8], io: &mut [u8]) -> Bench {
+    print::line(console_message::lent(space, n));
     match space {
-        Space::Memory => {
+        LentSpace::Memory => {
             clear(n as usize, memory);
             Bench { memory: n, ..b }
         }
-        Space::Io => {
+        LentSpace::Io => {
             clear(n as usize, io);
             Bench { io: n, ..b }
         }

@@ -19,11 +19,11 @@ struct Session {
     length: usize,
 }
 
-fn input_of(line: &[u8], length: usize, bytes: &mut [u8; 64]) -> lines::Input {
+fn input_of(line: &[u8], length: usize, bytes: &mut [u8; 64]) -> console_line::Input {
     if length <= line.len() {
-        return lines::read_line(&line[0..length], bytes);
+        return console_line::read_line(&line[0..length], bytes);
     }
-    lines::Input::Ask(lines::Request::Unreadable)
+    console_line::Input::Ask(console_line::Request::Unreadable)
 }
 
 fn end_line(line: &Line, s: Session, memory: &mut Memory, io: &mut Io) -> Session {

@@ -1,8 +1,8 @@
 // What is printed, a line at a time.
-use controller::Controller;
 use libc::STDOUT_FILENO;
 use port::Which;
-use text::Text;
+use step::Controller;
+use text_print::Text;
 
 fn write_first(n: usize, s: &[u8]) {
     if n <= s.len() {
@@ -18,15 +18,15 @@ pub fn line(t: Text) {
 }
 
 fn channel_state(w: Which, u: Controller) {
-    line(showing::current(w, u));
-    line(showing::base(w, u));
-    line(showing::compared(w, u));
-    line(showing::modes(w, u));
-    line(showing::status(w, u));
+    line(console_state::current(w, u));
+    line(console_state::base(w, u));
+    line(console_state::compared(w, u));
+    line(console_state::modes(w, u));
+    line(console_state::status(w, u));
 }
 
 pub fn state(u: Controller) {
-    line(showing::controller(u));
+    line(console_state::controller(u));
     channel_state(Which::One, u);
     channel_state(Which::Two, u);
 }
@@ -34,7 +34,7 @@ pub fn state(u: Controller) {
 pub fn help() {
     let mut n: u8 = 0;
     while n < 16 {
-        line(phrases::help(n));
+        line(console_message::help(n));
         n += 1;
     }
 }

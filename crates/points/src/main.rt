@@ -1,16 +1,16 @@
 // The points of document 01 that are run, and the data sheet's initialization program and reload table (Figures 23 and 24), each
 // compared with what it should be.
-use address::Address;
+use call_command::Writing;
+use call_command::Written;
+use call_read::Reading;
 use channel::Channel;
-use commanding::Writing;
-use commanding::Written;
-use controller::Answer;
-use controller::Controller;
-use controller::Ran;
 use libc::STDOUT_FILENO;
 use port::Which;
-use reading::Reading;
 use space::Width;
+use step::Answer;
+use step::Controller;
+use step::Ran;
+use word_address::Address;
 
 // The reload table of Figure 24, from address 1020h on, as its reload word 03FFh takes it.
 const TABLE: [u16; 18] = [
@@ -78,7 +78,7 @@ fn say(what: &[u8], right: bool) {
 }
 
 fn write_at(u: Controller, pointer: u16, w: u16) -> Written {
-    writing::write(w, pointer::write_pointer(u, pointer))
+    call_write::write(w, call_pointer::write_pointer(u, pointer))
 }
 
 fn state_after(u: Controller, pointer: u16, w: u16) -> Controller {
@@ -100,11 +100,11 @@ fn is_write_refused(u: Controller, pointer: u16, w: u16, n: u8) -> bool {
 }
 
 fn is_fresh_write_refused(pointer: u16, w: u16, n: u8) -> bool {
-    is_write_refused(udc::fresh(), pointer, w, n)
+    is_write_refused(call_reset::fresh(), pointer, w, n)
 }
 
 fn is_read_refused(u: Controller, n: u8) -> bool {
-    let a = reading::read(u);
+    let a = call_read::read(u);
     match a {
         Reading::Refused(m) => m == n,
         Reading::Value(_) => false,
@@ -113,8 +113,10 @@ fn is_read_refused(u: Controller, n: u8) -> bool {
 
 // Pointer 00FFh reads 007Eh, and its register is refused by 1 in both directions.
 fn is_pointer_right() -> bool {
-    let u = pointer::write_pointer(udc::fresh(), 0x00FF);
-    (pointer::read_pointer(u) == 0x007E) & is_read_refused(u, 1) & is_write_refused(u, 0x00FF, 0, 1)
+    let u = call_pointer::write_pointer(call_reset::fresh(), 0x00FF);
+    (call_pointer::read_pointer(u) == 0x007E)
+        & is_read_refused(u, 1)
+        & is_write_refused(u, 0x00FF, 0, 1)
 }
 
 fn is_first(w: Which) -> bool {
@@ -141,7 +143,7 @@ fn is_idle(a: Answer) -> bool {
 
 // Figure 23 with its own numbers: master mode, chain upper and lower, Start Chain.
 fn started(master: u16, lower: u16) -> Controller {
-    let a = state_after(udc::fresh(), 0x38, master);
+    let a = state_after(call_reset::fresh(), 0x38, master);
     let b = state_after(a, 0x26, 0x0000);
     let c = state_after(b, 0x22, lower);
     state_after(c, 0x2C, 0x00A0)
@@ -185,7 +187,7 @@ fn does_first_go_on(r: Ran) -> bool {
 
 // Count 2 with the match second ends with TC and MC.
 fn is_match_right(memory: &mut [u8], io: &mut [u8]) -> bool {
-    let r = running::run(started(1, 0x0100), 9, memory, io);
+    let r = call_run::run(started(1, 0x0100), 9, memory, io);
     let u = r.state;
     let s = u.step(false, memory, io);
     let a = s.answer;
@@ -220,11 +222,11 @@ fn is_chained(r: Ran) -> bool {
 }
 
 fn is_chain_right(memory: &mut [u8], io: &mut [u8]) -> bool {
-    is_chained(running::run(started(0x0007, 0x1020), 100, memory, io))
+    is_chained(call_run::run(started(0x0007, 0x1020), 100, memory, io))
 }
 
 fn with_line(u: Controller) -> Controller {
-    let l = udc::line(1, true, u);
+    let l = call_line::line(1, true, u);
     l.state
 }
 
@@ -236,8 +238,8 @@ fn is_ended(r: Ran) -> bool {
 
 // With its line active the channel moves 16 words of I/O in demand hold and ends by TC.
 fn is_block_right(memory: &mut [u8], io: &mut [u8]) -> bool {
-    let r = running::run(started(0x0007, 0x1020), 19, memory, io);
-    let moved = running::run(with_line(r.state), 16, memory, io);
+    let r = call_run::run(started(0x0007, 0x1020), 19, memory, io);
+    let moved = call_run::run(with_line(r.state), 16, memory, io);
     is_ended(moved) & has_words(memory, io, false, 0x1060, &FRAME)
 }
 

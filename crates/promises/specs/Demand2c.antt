@@ -1,103 +1,31 @@
 -- Demand 2, the funnel: words funnelled to bytes and back arrive unchanged. Either channel does either half, in any stretch of steps
 -- in which the other channel writes none of the areas; both orders of the halves, memory or I/O on each side, up and down.
 -- Assumes nothing.
-use mathlib.Core.Path.{_≡_, refl, sym, ap, _∙_, subst}
+use mathlib.Core.Path.{_≡_}
 use mathlib.Core.Bool.{Bool, true, false}
-use mathlib.Core.List.{List, [], _∷_}
-use Prim.Native.Nat.{ℕ, zero, suc, _+_, _-_, _*_, _%_, _≤_, _<_}
-use native.Mathlib.Omega.{arith}
-use lib.Dec.{eqb}
-use borrow.Author.Tests.{ne-eqb}
+use mathlib.Core.List.{List}
+use Prim.Native.Nat.{ℕ, zero, suc, _-_, _*_, _%_, _≤_}
 use Rattle.space.specs.declared.Width.the-variants.{Byte, Word}
 use Rattle.space.specs.declared.Place.{Place}
-use Rattle.space.specs.Space.{Spaces, get, placeAt}
-use Rattle.space.specs.Bytes.{after, gets}
-use Rattle.space.specs.Laws.{SameSize, size-refl, Bytes}
-use Rattle.board.specs.Board.{boardOf}
-use Rattle.laws.specs.Local.{Write, puts, size-puts, writing}
-use Rattle.laws.specs.Machine.{iter, Every, every-map}
-use Rattle.laws.specs.Op.{ended, bump, done, Unended, Steady}
-use Rattle.laws.specs.Op as op
-use Rattle.laws.specs.Block.{Both, Laid, Carrying, Arrived, block-arrives}
-use Rattle.laws.specs.Funnel.{to-bytes, to-word, round-trip}
-use Rattle.laws.specs.Pace.{pace}
-use Rattle.laws.specs.Area.{byte, high, low, word-reads, byte-reads, byte-writes, word-writes, Apart-inside, laid-bytes, laid-words, apart-size, bytes-kept}
-use Rattle.counting.specs.Count.{fewer, terminal}
-use Rattle.counting.specs.CountLaws.{fewer-left, last-terminal}
-use Rattle.funnel.specs.Funnel.{highFirst}
-use Rattle.address.specs.declared.Address.{Address}
-use Rattle.address.specs.declared.Set.{Set}
-use Rattle.address.specs.Address.{placeOf, steppedOn}
-use Rattle.address.specs.Laws.{Words}
-use Rattle.operation.specs.declared.Operation.{Operation}
-use Rattle.operation.specs.declared.Moves.{Moves}
-use Rattle.operation.specs.declared.Moves.the-variants.{Funnel}
-use Rattle.operation.specs.Operation.{moving}
-use Rattle.mode.specs.Mode.{operationOf, isFlipped, requestModeOf}
-use Rattle.reasons.specs.Reasons.{some}
-use Rattle.accesses.specs.Accesses.{bytes, readsOf, writesOf, datumOf, writtenOf, datumAt, steppedSet}
-use Rattle.unit.specs.Unit.{compared, movedOf, worked}
-use Rattle.channel.specs.declared.Channel.{Channel}
-use Rattle.channel.specs.EndingLaws.{ends-exactly}
-use Rattle.channel.specs.Ending.{reasonsOf, afterUnit}
-use Rattle.control.specs.declared.Control.{Control}
-use Rattle.rules.specs.declared.Choice.{Choice}
-use Rattle.rules.specs.declared.Choice.the-variants as chosen
-use Rattle.rules.specs.Rules.{isInterleaved}
-use Rattle.controller.specs.Step.{workOf, performOf}
-use Rattle.control.specs.After.{controlBy}
+use Rattle.unit_laws.specs.Local.{Write}
+use Rattle.unit_laws.specs.Machine.{iter, Every}
+use Rattle.unit_laws.specs.Op.{done}
+use Rattle.unit_laws.specs.Block.{Both}
+use Rattle.unit_laws.specs.Area.{word-reads, byte-reads, byte-writes, word-writes}
+use Rattle.unit_funnel.specs.Funnel.{highFirst}
+use Rattle.word_address.specs.declared.Address.{Address}
+use Rattle.word_operation.specs.declared.Moves.the-variants.{Funnel}
+use Rattle.word_operation.specs.Operation.{moving}
+use Rattle.word_mode.specs.Mode.{operationOf, isFlipped}
 use Rattle.port.specs.declared.Which.{Which}
-use Rattle.promises.specs.Machine.{Machine, step, next-choice, channel, unit-reads, unit-writes, unit-spaces}
-use Rattle.promises.specs.Own.{owns, spares, unfetched, Left, by, rest-of, Away, others-keep}
-use Rattle.promises.specs.Demand2b.{Held, held, prog, seen, ends-of, made, step-by, unit-step, unit-left, control-left, control-after, unended-chain, Goes, goes-after, current-after, steps, after-grows}
-use Rattle.promises.specs.Paced.{line, stands, place-is}
+use Rattle.promises.specs.Machine.{Machine, step, next-choice, channel}
+use Rattle.promises.specs.Own.{owns, spares, Away}
+use Rattle.promises.specs.Demand2b.{Held, held, seen, steps}
+use Rattle.promises.specs.Paced.{line}
 
--- no step changes the sizes of the spaces
-sizes-of : (c : Choice) (m : Machine) → SameSize (by c m .spaces) (m .spaces)
-unfolding performOf
-sizes-of chosen.Disabled m = size-refl (m .spaces)
-sizes-of (chosen.Refused n) m = size-refl (m .spaces)
-sizes-of (chosen.Fetch v s) m = size-refl (m .spaces)
-sizes-of chosen.GiveBack m = size-refl (m .spaces)
-sizes-of (chosen.Unit v) m =
-    subst (λ (z : Spaces). SameSize z (m .spaces)) (unit-spaces v (channel v m) (m .spaces))
-    (size-puts (unit-writes (channel v m)) (gets (m .spaces) (unit-reads (channel v m))) (m .spaces))
-sizes-of (chosen.Hold v) m = size-refl (m .spaces)
-sizes-of chosen.Release m = size-refl (m .spaces)
-sizes-of chosen.Idle m = size-refl (m .spaces)
-
-unit-moves : (w : Which) (m : Machine) → by (chosen.Unit w) m .spaces ≡ puts (unit-writes (channel w m)) (gets (m .spaces) (unit-reads (channel w m))) (m .spaces)
-unfolding performOf
-unit-moves w m = sym (unit-spaces w (channel w m) (m .spaces))
-
--- the registers of a funnelled transfer, as far as its accesses go
-abbrev funnel-reads : Moves → Bool → Set → List Place
-funnel-reads m flip s = bytes (readsOf m flip s)
-
-abbrev funnel-writes : Moves → Bool → Set → List Write
-funnel-writes m flip s = writing 0 (bytes (writesOf m flip s)) (λ d. writtenOf m flip s (datumOf m flip s d))
-
-abbrev sides : Address → Address → ℕ → Set
-sides a b n = record { a = a; b = b; count = n }
-
--- both sides are used: the byte side steps twice, the word side once
-byte-side : (flip : Bool) (s : Set) → steppedSet Funnel flip s .a ≡ steppedOn Byte (steppedOn Byte (s .a))
-unfolding steppedSet
-byte-side true s = refl
-byte-side false s = refl
-
-word-side : (flip : Bool) (s : Set) → steppedSet Funnel flip s .b ≡ steppedOn Word (s .b)
-unfolding steppedSet
-word-side true s = refl
-word-side false s = refl
-
-twice : (k : ℕ) → suc k * 2 ≡ suc (suc (k * 2))
-twice k = omega arith
-
--- A funnelled transfer of n units: A from the byte start, B from the word start; flip 1 from words to bytes, flip 0 back.
 module _ (w : Which) (flip : Bool) (bytes-at words-at : Address) (n : ℕ) (fits : n ≤ 65536) where
   -- k of them are done; no chain of the channel is pending or under way
-  pub record At (k : ℕ) (r : Held) : Type 0 where
+  pub record FunnelAt (k : ℕ) (r : Held) : Type 0 where
     pub op-is : operationOf (r .channel .mode) ≡ moving Funnel
     pub flipped : isFlipped (r .channel .mode) ≡ flip
     pub a-is : r .channel .current .a ≡ steps Byte (k * 2) bytes-at
@@ -106,182 +34,19 @@ module _ (w : Which) (flip : Bool) (bytes-at words-at : Address) (n : ℕ) (fits
     pub pending : r .channel .pending ≡ false
     pub spared : spares w (r .chain) ≡ true
 
-  reads-by : (k : ℕ) (r : Held) → At k r → unit-reads (r .channel) ≡ funnel-reads Funnel flip (sides (steps Byte (k * 2) bytes-at) (steps Word k words-at) (r .channel .current .count))
-  reads-by k r h = λ i. funnel-reads (h .op-is i .moves) (h .flipped i) (sides (h .a-is i) (h .b-is i) (r .channel .current .count))
-
-  writes-by : (k : ℕ) (r : Held) → At k r → unit-writes (r .channel) ≡ funnel-writes Funnel flip (sides (steps Byte (k * 2) bytes-at) (steps Word k words-at) (r .channel .current .count))
-  writes-by k r h = λ i. funnel-writes (h .op-is i .moves) (h .flipped i) (sides (h .a-is i) (h .b-is i) (r .channel .current .count))
-
-  -- it ends by TC alone, at the last unit
-  ends-at : (k : ℕ) (m : Machine) → k < n → At k (held w m) → ends-of (made w m) ≡ record { mc = false; tc = eqb (suc k) n }
-  unfolding worked movedOf compared
-  ends-at k m b h = λ i. record {
-    mc = compared (h .op-is i) (datumAt (operationOf (channel w m .mode) .moves) (isFlipped (channel w m .mode)) (channel w m .current) (m .spaces)) (channel w m .pattern) (channel w m .mask)
-        (Rattle.mode.specs.Mode.matchControl (channel w m .mode)) (workOf (channel w m) .kept) .met;
-    tc = (ap (λ (x : ℕ). terminal (fewer x)) (h .count) ∙ last-terminal n k fits b) i;
-  }
-
-  next-at : (k : ℕ) (m : Machine) → suc k ≤ n → At k (held w m) → some (reasonsOf (made w m) false) ≡ false → At (suc k) (held w (by (chosen.Unit w) m))
-  unfolding worked movedOf steppedSet
-  next-at k m b h e = record {
-    op-is = ap (λ (x : Channel). operationOf (x .mode)) (unit-left w m) ∙ g .op ∙ h .op-is;
-    flipped = ap (λ (x : Channel). isFlipped (x .mode)) (unit-left w m) ∙ g .flip ∙ h .flipped;
-    a-is = ap (λ (x : Channel). x .current .a) (unit-left w m) ∙ ap (λ (s : Set). s .a) now ∙ a-on
-        ∙ ap (λ (x : Address). steppedOn Byte (steppedOn Byte x)) (h .a-is) ∙ ap (λ (j : ℕ). steps Byte j bytes-at) (sym (twice k));
-    b-is = ap (λ (x : Channel). x .current .b) (unit-left w m) ∙ ap (λ (s : Set). s .b) now ∙ b-on ∙ ap (steppedOn Word) (h .b-is);
-    count = ap (λ (x : Channel). x .current .count) (unit-left w m) ∙ ap (λ (s : Set). s .count) now ∙ ap fewer (h .count) ∙ fewer-left n k fits b;
-    pending = ap (λ (x : Channel). x .pending) (unit-left w m) ∙ g .pending ∙ h .pending;
-    spared = ap (λ (x : Control). spares w (x .chain)) (control-left w m) ∙ spared′;
-  }
-    where
-      g : Goes (channel w m) (afterUnit w false (made w m) (channel w m) .channel)
-      g = goes-after w (made w m) (channel w m) e
-
-      now : afterUnit w false (made w m) (channel w m) .channel .current ≡ made w m .set
-      now = current-after w (made w m) (channel w m) e
-
-      a-on : made w m .set .a ≡ steppedOn Byte (steppedOn Byte (channel w m .current .a))
-      a-on = ap (λ (o : Operation). steppedSet (o .moves) (isFlipped (channel w m .mode)) (channel w m .current) .a) (h .op-is) ∙ byte-side (isFlipped (channel w m .mode)) (channel w m .current)
-
-      b-on : made w m .set .b ≡ steppedOn Word (channel w m .current .b)
-      b-on = ap (λ (o : Operation). steppedSet (o .moves) (isFlipped (channel w m .mode)) (channel w m .current) .b) (h .op-is) ∙ word-side (isFlipped (channel w m .mode)) (channel w m .current)
-
-      spared′ : spares w (control-after w m .chain) ≡ true
-      spared′ =
-          ap (λ (x : Bool). spares w (controlBy x (requestModeOf (channel w m .mode)) (isInterleaved (m .controller .master))
-          (afterUnit w false (made w m) (channel w m) .chains) w (m .controller .control) .chain)) e
-          ∙ ap (spares w) (unended-chain w (requestModeOf (channel w m .mode)) (isInterleaved (m .controller .master))
-          (afterUnit w false (made w m) (channel w m) .chains) (m .controller .control)) ∙ h .spared
-
-  rest-at : (k : ℕ) (m : Machine) → At k (held w m) → owns w (next-choice m) ≡ false → At k (held w (by (next-choice m) m))
-  rest-at k m h e = record {
-    op-is = ap (λ (x : Channel). operationOf (x .mode)) q ∙ h .op-is;
-    flipped = ap (λ (x : Channel). isFlipped (x .mode)) q ∙ h .flipped;
-    a-is = ap (λ (x : Channel). x .current .a) q ∙ h .a-is;
-    b-is = ap (λ (x : Channel). x .current .b) q ∙ h .b-is;
-    count = ap (λ (x : Channel). x .current .count) q ∙ h .count;
-    pending = ap (λ (x : Channel). x .pending) q ∙ h .pending;
-    spared = left-of .spared;
-  }
-    where
-      left-of : Left w m (by (next-choice m) m)
-      left-of = rest-of w (next-choice m) m e (unfetched w (boardOf (m .spaces)) (m .controller) (h .pending) (h .spared)) (h .spared)
-
-      q : channel w (by (next-choice m) m) ≡ channel w m
-      q = left-of .alone
-
-  steady : (k : ℕ) (m : Machine) → k < n → At k (held w m) → Steady (seen w) n At k m
-  unfolding some
-  steady k m b h = record {
-    goes = λ e f c. subst (λ (x : Machine). At (suc k) (held w x)) (sym (unit-step w m e)) (next-at k m b h (ends-exactly (made w m) ∙ f));
-    rest = λ e. subst (λ (x : Machine). At k (held w x)) (sym (step-by m)) (rest-at k m h e);
-  }
-
-  -- the units before the last do not end it
-  unended-before : (k : ℕ) (m : Machine) → suc k < n → At k (held w m) → ended (ends-of (made w m)) ≡ false
-  unended-before k m b h = ap ended (ends-at k m (omega arith) h) ∙ ne-eqb (suc k) n (λ e. omega arith)
-
-  going : (i k : ℕ) (m : Machine) → At k (held w m) → op.after (seen w) k i m < n → Every step (Unended (seen w)) i m
-  going zero k m h c = tt
-  going (suc i) k m h c =
-      let g = after-grows (seen w) i (bump (owns w (next-choice m)) k) (step m) in
-      ((λ e. now e g), going i (bump (owns w (next-choice m)) k) (step m) (on (owns w (next-choice m)) refl g) c)
-    where
-      small : op.after (seen w) (bump (owns w (next-choice m)) k) i (step m) < n
-      small = c
-
-      now : owns w (next-choice m) ≡ true → bump (owns w (next-choice m)) k ≤ op.after (seen w) (bump (owns w (next-choice m)) k) i (step m)
-          → ended (ends-of (made w m)) ≡ false
-      now e g = unended-before k m (let s = small in let d = subst (λ (b : Bool). bump b k ≤ op.after (seen w) (bump (owns w (next-choice m)) k) i (step m)) e g in omega arith) h
-
-      on : (b : Bool) → owns w (next-choice m) ≡ b → bump (owns w (next-choice m)) k ≤ op.after (seen w) (bump (owns w (next-choice m)) k) i (step m)
-          → At (bump (owns w (next-choice m)) k) (held w (step m))
-      on true e g = subst (λ (b : Bool). At (bump b k) (held w (step m))) (sym e)
-          (steady k m (let s = small in let d = subst (λ (b : Bool). bump b k ≤ op.after (seen w) (bump (owns w (next-choice m)) k) i (step m)) e g in omega arith) h .goes e (now e g)
-          (let s = small in let d = subst (λ (b : Bool). bump b k ≤ op.after (seen w) (bump (owns w (next-choice m)) k) i (step m)) e g in omega arith))
-      on false e g = subst (λ (b : Bool). At (bump b k) (held w (step m))) (sym e)
-          (steady k m (let s = small in let d = subst (λ (b : Bool). bump b k ≤ op.after (seen w) (bump (owns w (next-choice m)) k) i (step m)) e g in omega arith) h .rest e)
-
-  module _ (src : ℕ → List Place) (dst : ℕ → List Write)
-      (reads : (k c : ℕ) → funnel-reads Funnel flip (sides (steps Byte (k * 2) bytes-at) (steps Word k words-at) c) ≡ src k)
-      (writes : (k c : ℕ) → funnel-writes Funnel flip (sides (steps Byte (k * 2) bytes-at) (steps Word k words-at) c) ≡ dst k) where
-    carrying : (m : Machine) → Away w (Both n src dst) m → Carrying (seen w) prog n src dst At m
-    carrying m u k b h = record {
-      steady = steady k m b h;
-      sizes = subst (λ (x : Machine). SameSize (x .spaces) (m .spaces)) (sym (step-by m)) (sizes-of (next-choice m) m);
-      moved = λ e l y. ap (λ (x : Machine). get (x .spaces) l) (unit-step w m e) ∙ ap (λ (z : Spaces). get z l) (unit-moves w m);
-      kept = λ e l y. ap (λ (x : Machine). get (x .spaces) l) (step-by m) ∙ others-keep w (Both n src dst) (next-choice m) m refl u e l y;
-    }
-
-    arrives : (i : ℕ) (m : Machine) → Laid n src dst (m .spaces) → At zero (held w m) → Every step (Away w (Both n src dst)) (suc i) m
-        → owns w (next-choice (iter step i m)) ≡ true → suc (done (seen w) i m) ≡ n
-        → Arrived n src dst (m .spaces) n (step (iter step i m) .spaces)
-    arrives i m y h u e q =
-        block-arrives (seen w) prog n src dst At (λ k r b x. reads-by k r x ∙ reads k (r .channel .current .count))
-        (λ k r b x. writes-by k r x ∙ writes k (r .channel .current .count)) i m y h
-        (every-map step (Away w (Both n src dst)) (Carrying (seen w) prog n src dst At) carrying (suc i) m u)
-        (going i zero m h (omega arith)) e q
-
--- ---- the accesses, as lines of places
-
-after-at : (t : Bool) (n : ℕ) → after (placeAt t n) ≡ placeAt t (n + 1)
-after-at true n = refl
-after-at false n = refl
-
-module _ (b x : Address) (hb : Words b) (hx : Words x) where
-  low-is : (k : ℕ) → after (placeOf (steps Word k x)) ≡ low (line Word x) k
-  low-is k = ap after (place-is Word x hx k) ∙ after-at (line Word x .tag) (pace (line Word x .start) (line Word x .by) k)
-
-  word-reads-is : (k c : ℕ) → funnel-reads Funnel true (sides (steps Byte (k * 2) b) (steps Word k x) c) ≡ word-reads (line Word x) k
-  word-reads-is k c = λ i. place-is Word x hx k i ∷ low-is k i ∷ []
-
-  byte-reads-is : (k c : ℕ) → funnel-reads Funnel false (sides (steps Byte (k * 2) b) (steps Word k x) c) ≡ byte-reads (line Byte b) k
-  byte-reads-is k c = λ i. place-is Byte b hb (k * 2) i ∷ place-is Byte b hb (suc (k * 2)) i ∷ []
-
-  byte-writes-is : (k c : ℕ) → funnel-writes Funnel true (sides (steps Byte (k * 2) b) (steps Word k x) c) ≡ byte-writes (highFirst (x .upper)) (line Byte b) k
-  byte-writes-is k c = λ i. to-bytes (stands Word x hx k .order i) (place-is Byte b hb (k * 2) i) (place-is Byte b hb (suc (k * 2)) i)
-
-  word-writes-is : (k c : ℕ) → funnel-writes Funnel false (sides (steps Byte (k * 2) b) (steps Word k x) c) ≡ word-writes (highFirst (x .upper)) (line Word x) k
-  word-writes-is k c = λ i. to-word (stands Word x hx k .order i) (place-is Word x hx k i) (low-is k i)
-
 -- ---- the demand
 
 -- a funnelled transfer of n units from m, whose last unit is step i; the other channel writes neither area
-pub record Ran (w : Which) (flip : Bool) (bytes-at words-at : Address) (n : ℕ) (src : ℕ → List Place) (dst : ℕ → List Write) (m : Machine) (i : ℕ) : Type 0 where
+pub record Funnelled (w : Which) (flip : Bool) (bytes-at words-at : Address) (n : ℕ) (src : ℕ → List Place) (dst : ℕ → List Write) (m : Machine) (i : ℕ) : Type 0 where
   pub fits : n ≤ 65536
-  pub at : At w flip bytes-at words-at n fits zero (held w m)
+  pub at : FunnelAt w flip bytes-at words-at n fits zero (held w m)
   pub undisturbed : Every step (Away w (Both n src dst)) (suc i) m
   pub mine : owns w (next-choice (iter step i m)) ≡ true
   pub last : suc (done (seen w) i m) ≡ n
 
 -- n words at a to the bytes at b, by flip 1; and the bytes at b to n words at h, by flip 0
 abbrev pub Splits : Which → Address → Address → ℕ → Machine → ℕ → Type 0
-Splits w a b n = Ran w true b a n (word-reads (line Word a)) (byte-writes (highFirst (a .upper)) (line Byte b))
+Splits w a b n = Funnelled w true b a n (word-reads (line Word a)) (byte-writes (highFirst (a .upper)) (line Byte b))
 
 abbrev pub Merges : Which → Address → Address → ℕ → Machine → ℕ → Type 0
-Merges w b h n = Ran w false b h n (byte-reads (line Byte b)) (word-writes (highFirst (h .upper)) (line Word h))
-
--- Three areas, each given by its start: words at a, bytes at b, words at h. None holds, the areas are apart and inside (`Apart-inside`),
--- and the word side keeps its direction: the halves go and come in one order. From any later machine whose byte area still holds those
--- bytes, word k of the second area is word k of the first as it was at the start.
-pub demand2c : (w w′ : Which) (a b h : Address) (n : ℕ) (m m′ : Machine) (i i′ : ℕ) → Words a → Words b → Words h
-    → highFirst (h .upper) ≡ highFirst (a .upper)
-    → Apart-inside n (line Word a) (line Byte b) (line Word h) (m .spaces) → Bytes (m .spaces)
-    → Splits w a b n m i
-    → SameSize (m .spaces) (m′ .spaces)
-    → ((j : ℕ) → j < n * 2 → get (m′ .spaces) (byte (line Byte b) j) ≡ get (step (iter step i m) .spaces) (byte (line Byte b) j))
-    → Merges w′ b h n m′ i′
-    → (k : ℕ) → k < n
-    → (get (step (iter step i′ m′) .spaces) (high (line Word h) k) ≡ get (m .spaces) (high (line Word a) k))
-    × (get (step (iter step i′ m′) .spaces) (low (line Word h) k) ≡ get (m .spaces) (low (line Word a) k))
-demand2c w w′ a b h n m m′ i i′ wa wb wh same x c r z e r′ =
-    round-trip n (highFirst (a .upper)) (high (line Word a)) (low (line Word a)) (λ k. byte (line Byte b) (k * 2)) (λ k. byte (line Byte b) (suc (k * 2)))
-    (high (line Word h)) (low (line Word h))
-    (m .spaces) (step (iter step i m) .spaces) (m′ .spaces) (step (iter step i′ m′) .spaces) c
-    (arrives w true b a n (r .fits) (word-reads (line Word a)) (byte-writes (highFirst (a .upper)) (line Byte b)) (word-reads-is b a wb wa) (byte-writes-is b a wb wa)
-    i m (laid-bytes n (highFirst (a .upper)) (line Word a) (line Byte b) (line Word h) (m .spaces) x) (r .at) (r .undisturbed) (r .mine) (r .last))
-    (bytes-kept (line Byte b) (highFirst (a .upper)) n (m′ .spaces) (step (iter step i m) .spaces) e)
-    (subst (λ (o : Bool). Arrived n (byte-reads (line Byte b)) (word-writes o (line Word h)) (m′ .spaces) n (step (iter step i′ m′) .spaces)) same
-    (arrives w′ false b h n (r′ .fits) (byte-reads (line Byte b)) (word-writes (highFirst (h .upper)) (line Word h)) (byte-reads-is b h wb wh) (word-writes-is b h wb wh)
-    i′ m′ (laid-words n (highFirst (h .upper)) (line Word a) (line Byte b) (line Word h) (m′ .spaces) (apart-size n (line Word a) (line Byte b) (line Word h) (m .spaces) (m′ .spaces) z x))
-    (r′ .at) (r′ .undisturbed) (r′ .mine) (r′ .last)))
+Merges w b h n = Funnelled w false b h n (byte-reads (line Byte b)) (word-writes (highFirst (h .upper)) (line Word h))

@@ -7,11 +7,5 @@ pub mod Demand2b
 pub mod Paced
 pub mod Demand2c
 pub mod Demand3
-pub mod Witness
-pub mod FunnelWitness
 pub mod WellFormed
-pub mod WellChannel
-pub mod WellEnding
-pub mod WellCalls
-pub mod WellStep
 pub mod Reached

@@ -1,27 +1,24 @@
 -- A machine is a controller and the two lent spaces; a stretch of n is n steps without EOP. A unit, as the program of accesses that
 -- the laws speak of, is the unit that the step does. Assumes nothing.
-use mathlib.Core.Path.{_≡_, refl}
 use mathlib.Core.Bool.{false}
 use mathlib.Core.List.{List}
 use Prim.Native.Nat.{ℕ}
 use Rattle.space.specs.declared.Place.{Place}
 use Rattle.space.specs.Space.{Spaces}
-use Rattle.space.specs.Bytes.{gets}
-use Rattle.laws.specs.Local.{Prog, Write, exec}
+use Rattle.unit_laws.specs.Local.{Prog, Write}
 use Rattle.port.specs.declared.Which.{Which}
-use Rattle.mode.specs.Mode.{operationOf, isFlipped}
-use Rattle.accesses.specs.Accesses.{bytes, readsOf, datumOf, datumAt}
-use Rattle.unit.specs.Unit.{movedOf, worked}
-use Rattle.accesses.specs.Laws.{writesBy, writes-exactly}
+use Rattle.word_mode.specs.Mode.{operationOf, isFlipped}
+use Rattle.unit_accesses.specs.Accesses.{bytes, readsOf, datumOf, writesBy}
+use Rattle.unit.specs.Unit.{movedOf}
 use Rattle.channel.specs.declared.Channel.{Channel}
 use Rattle.channel.specs.Ending.{afterUnit}
-use Rattle.controller.specs.declared.Controller.{Controller}
-use Rattle.controller.specs.declared.Answer.{Answer}
-use Rattle.rules.specs.declared.Choice.{Choice}
-use Rattle.controller.specs.Controller.{at}
-use Rattle.board.specs.Board.{boardOf}
-use Rattle.controller.specs.Choice.{choice}
-use Rattle.controller.specs.Step.{Outcome, workOf, stepOf}
+use Rattle.step.specs.declared.Controller.{Controller}
+use Rattle.step.specs.declared.Answer.{Answer}
+use Rattle.step_rules.specs.declared.Choice.{Choice}
+use Rattle.step.specs.Controller.{at}
+use Rattle.space_board.specs.Board.{boardOf}
+use Rattle.step.specs.Choice.{choice}
+use Rattle.step.specs.Step.{Outcome, workOf, stepOf}
 
 pub record Machine : Type 0 where
   pub controller : Controller
@@ -63,13 +60,3 @@ unit w = record {
   writes = unit-writes;
   next = λ c d. afterUnit w false (movedOf (workOf c) (datum c d)) c .channel;
 }
-
--- it is the unit of the step: the same registers ..
-pub unit-channel : (w : Which) (c : Channel) (z : Spaces) → exec (unit w) c z .reg ≡ afterUnit w false (worked (workOf c) z .moved) c .channel
-unfolding worked datumAt
-unit-channel w c z = refl
-
--- .. and the same spaces
-pub unit-spaces : (w : Which) (c : Channel) (z : Spaces) → exec (unit w) c z .spaces ≡ worked (workOf c) z .spaces
-unfolding worked datumAt
-unit-spaces w c z = writes-exactly (operationOf (c .mode) .moves) (isFlipped (c .mode)) (c .current) (gets z (unit-reads c)) z

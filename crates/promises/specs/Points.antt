@@ -1,38 +1,30 @@
 -- Document 01, "Points on both sides": the points that are proved, as a single table under one claim, of the rules themselves.
 -- Assumes nothing.
-use mathlib.Core.Path.{_≡_, refl, ap, subst, _∙_}
+use mathlib.Core.Path.{_≡_}
 use mathlib.Core.Bool.{true, false}
 use mathlib.Core.List.{List}
 use Prim.Native.Nat.{ℕ, _+_, _-_}
-use Rattle.facts.specs.Look.{look}
 use Rattle.space.specs.declared.Width.the-variants.{Byte, Word}
-use Rattle.comparing.specs.Comparison.{comparison}
-use Rattle.funnel.specs.Funnel.{highFirst, joined}
-use Rattle.tag.specs.Tag.{directionOf}
-use Rattle.address.specs.declared.Set.{Set}
-use Rattle.address.specs.Address.{steppedOn}
-use Rattle.mode.specs.Mode.{operationOf}
-use Rattle.reload.specs.declared.Stage.the-variants.{Reload}
-use Rattle.reload.specs.Reload.{wordsOf}
+use Rattle.unit_funnel.specs.Funnel.{highFirst, joined}
+use Rattle.word_address.specs.declared.Set.{Set}
+use Rattle.word_address.specs.Address.{steppedOn}
+use Rattle.word_reload.specs.declared.Stage.the-variants.{Reload}
 use Rattle.unit.specs.declared.Work.{Work}
-use Rattle.accesses.specs.Accesses.{steppedSet}
 use Rattle.unit.specs.Unit.{compared, movedOf}
-use Rattle.command.specs.Command.{commandOf}
 use Rattle.port.specs.declared.Which.the-variants.{One}
-use Rattle.writable.specs.Writable.{writePort}
 use Rattle.channel.specs.declared.Channel.{Channel}
-use Rattle.fetches.specs.Fetches.{fetchesOf}
-use Rattle.fetches.specs.Length.{wordAt, Whole, chain-length}
+use Rattle.chain_stride.specs.Fetches.{fetchesOf}
+use Rattle.chain_stride.specs.Length.{wordAt, WholeChain}
 use Rattle.channel.specs.Set.{_⟨interrupt≔_⟩, _⟨cie≔_⟩}
 use Rattle.channel.specs.Ending.{withIp}
-use Rattle.controller.specs.declared.Controller.{Controller}
-use Rattle.controller.specs.Controller.{at, with}
-use Rattle.commanding.specs.Commands.{takes, isBusy, commandedBy, commanded}
-use Rattle.writing.specs.Writing.{writeBy, writeOf}
+use Rattle.step.specs.declared.Controller.{Controller}
+use Rattle.step.specs.Controller.{at, with}
+use Rattle.call_command.specs.Commands.{takes, isBusy}
+use Rattle.call_write.specs.Writing.{writeOf}
 
 -- a chain with the reload word r, where so many may be fetched, fetches n words and is complete
 abbrev pub TakesWords : ℕ → ℕ → Type 0
-TakesWords r n = (m : List ℕ) (c : Channel) (k : ℕ) → wordAt m c ≡ r → Whole n (fetchesOf m (n - 1 + k) 0 Reload c)
+TakesWords r n = (m : List ℕ) (c : Channel) (k : ℕ) → wordAt m c ≡ r → WholeChain n (fetchesOf m (n - 1 + k) 0 Reload c)
 
 -- the count and TC that a unit leaves of a count
 abbrev pub counted : ℕ → Work → Work
@@ -77,42 +69,3 @@ pub record Points : Type 0 where
       × (movedOf (sought (movedOf (sought five) 0x1300 .set)) 0x12AA .tc ≡ false)
   -- Command 36h at 2E sets CIE and IP of channel 1; 20h changes nothing.
   pub p12 : (u : Controller) → u .pointer ≡ 0x2E → isBusy u ≡ false → (writeOf 0x36 u ≡ takes (interrupting u)) × (writeOf 0x20 u ≡ takes u)
-
-words-taken : (r n : ℕ) → wordsOf r ≡ n → TakesWords r n
-words-taken r n e m c k q = subst (λ (x : ℕ). Whole x (fetchesOf m (x - 1 + k) 0 Reload c)) (ap wordsOf q ∙ e) (chain-length m c k)
-
-at-2E : (w : ℕ) (u : Controller) → u .pointer ≡ 0x2E → writeOf w u ≡ commanded (commandOf w) One u
-unfolding writeOf writePort look
-at-2E w u e = ap (λ (p : ℕ). writeBy (writePort p) w u) e
-
-same-one : (u : Controller) → with One (at One u) u ≡ u
-unfolding with at
-same-one u = refl
-
-obeyed : (w : ℕ) (u : Controller) → isBusy u ≡ false → commandedBy false (isBusy u) (commandOf w) One u ≡ commandedBy false false (commandOf w) One u
-obeyed w u e = λ i. commandedBy false (e i) (commandOf w) One u
-
-set-both : (u : Controller) → isBusy u ≡ false → commanded (commandOf 0x36) One u ≡ takes (interrupting u)
-unfolding commanded commandOf look
-set-both u e = obeyed 0x36 u e
-
-set-none : (u : Controller) → isBusy u ≡ false → commanded (commandOf 0x20) One u ≡ takes u
-unfolding commanded commandOf look
-set-none u e = obeyed 0x20 u e ∙ ap takes (same-one u)
-
-pub points : Points
-unfolding wordsOf steppedOn directionOf movedOf steppedSet compared comparison operationOf look
-points = record {
-  p1 = words-taken 0x0282 6 refl;
-  p2 = words-taken 0x03FF 18 refl;
-  p3 = words-taken 0xFC00 1 refl;
-  p4 = refl;
-  p5 = refl;
-  p6 = refl;
-  p7 = λ w datum. (refl, refl);
-  p8 = λ w datum. (refl, refl);
-  p9 = refl;
-  p10 = refl;
-  p11 = (refl, refl, refl, refl);
-  p12 = λ u e b. (at-2E 0x36 u e ∙ set-both u b, at-2E 0x20 u e ∙ set-none u b);
-}

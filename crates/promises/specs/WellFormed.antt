@@ -6,22 +6,22 @@ use mathlib.Core.Bool.{Bool, true, false}
 use Prim.Native.Nat.{ℕ, _%_}
 use Rattle.port.specs.declared.Which.{Which}
 use Rattle.port.specs.Ports.{keptPointer}
-use Rattle.address.specs.declared.Address.{Address}
-use Rattle.address.specs.declared.Set.{Set}
-use Rattle.tag.specs.Tag.{keptTag, keptChain}
-use Rattle.mode.specs.declared.Mode.{Mode}
-use Rattle.mode.specs.declared.RequestMode.the-variants.{Single}
-use Rattle.mode.specs.Mode.{requestModeOf, isRequested, keptHigh}
+use Rattle.word_address.specs.declared.Address.{Address}
+use Rattle.word_address.specs.declared.Set.{Set}
+use Rattle.word_tag.specs.Tag.{keptTag, keptChain}
+use Rattle.word_mode.specs.declared.Mode.{Mode}
+use Rattle.word_mode.specs.declared.RequestMode.the-variants.{Single}
+use Rattle.word_mode.specs.Mode.{requestModeOf, isRequested, keptHigh}
 use Rattle.channel.specs.declared.Channel.{Channel}
-use Rattle.reload.specs.declared.Stage.{Stage}
-use Rattle.reload.specs.declared.Stage.the-variants.{Reload, Entries}
-use Rattle.control.specs.declared.Chain.{Chain}
-use Rattle.control.specs.declared.Chain.the-variants.{NoChain, Of}
-use Rattle.control.specs.declared.Bus.{Bus}
-use Rattle.control.specs.declared.Bus.the-variants.{Free, Kept}
-use Rattle.controller.specs.declared.Controller.{Controller}
-use Rattle.controller.specs.Controller.{at}
-use Rattle.rules.specs.Rules.{isEnabled}
+use Rattle.word_reload.specs.declared.Stage.{Stage}
+use Rattle.word_reload.specs.declared.Stage.the-variants.{Reload, Entries}
+use Rattle.step_bus.specs.declared.Chain.{Chain}
+use Rattle.step_bus.specs.declared.Chain.the-variants.{NoChain, Of}
+use Rattle.step_bus.specs.declared.Bus.{Bus}
+use Rattle.step_bus.specs.declared.Bus.the-variants.{Free, Kept}
+use Rattle.step.specs.declared.Controller.{Controller}
+use Rattle.step.specs.Controller.{at}
+use Rattle.step_rules.specs.Rules.{isEnabled}
 
 -- ---- absent bits
 
@@ -60,8 +60,8 @@ TidyHalf (Of w s) = TidyStage s
 -- ---- the flags of a channel
 
 -- something of the four flags SIP, CA, NAC and a chain pending
-abbrev pub Flags : (Bool → Bool → Bool → Bool → Type 0) → Channel → Type 0
-Flags P c = P (c .interrupt .sip) (c .status .ca) (c .status .nac) (c .pending)
+abbrev pub FlagsOf : (Bool → Bool → Bool → Bool → Type 0) → Channel → Type 0
+FlagsOf P c = P (c .interrupt .sip) (c .status .ca) (c .status .nac) (c .pending)
 
 pub record SettledFlags (sip ca nac pending : Bool) : Type 0 where
   pub ca-nac : ca ≡ true → nac ≡ true
@@ -78,10 +78,10 @@ pub record ClearFlags (sip ca nac pending : Bool) : Type 0 where
   pub no-pending : pending ≡ false
 
 abbrev pub Settled : Channel → Type 0
-Settled c = Flags SettledFlags c
+Settled c = FlagsOf SettledFlags c
 
 abbrev pub Clear : Channel → Type 0
-Clear c = Flags ClearFlags c
+Clear c = FlagsOf ClearFlags c
 
 -- ---- who has the bus
 

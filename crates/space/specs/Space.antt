@@ -1,13 +1,14 @@
 -- Document 01, "What the model covers" and "Moving a unit": the two lent byte spaces.
 -- Assumes nothing.
-use Prim.Native.Nat.{ℕ, _+_, _*_, _/_, _%_}
+use Prim.Native.Nat.{ℕ, _+_, _*_, _/_, _%_, _<_}
 use mathlib.Core.Bool.{Bool, true, false}
 use mathlib.Core.List.{List}
-use lib.ListN.{getD, set}
+use lib.ListN.{getD, set, length}
 use Rattle.space.specs.declared.Place.{Place}
 use Rattle.space.specs.declared.Place.the-variants.{Memory, Io}
 use Rattle.space.specs.declared.Width.{Width}
 use Rattle.space.specs.declared.Width.the-variants.{Byte, Word}
+use mathlib.Core.Path.{_≡_}
 
 -- Two byte spaces, memory and I/O, each of any length.
 pub data Space : Type 0 where
@@ -70,3 +71,15 @@ readAt w s p = valueIn w (listOf (spaceOf p) s) (addressOf p)
 
 abbrev pub written : Width → Spaces → Place → ℕ → Spaces
 written w s p v = withList (spaceOf p) (withValue w (listOf (spaceOf p) s) (addressOf p) v) s
+
+-- The place lies inside its space.
+abbrev pub Inside : Spaces → Place → Type 0
+Inside s p = addressOf p < length (listOf (spaceOf p) s)
+
+-- Each space is as long as the other's.
+pub record SameSize (s t : Spaces) : Type 0 where
+  pub at : (k : Space) → length (listOf k s) ≡ length (listOf k t)
+
+-- Every place holds a byte.
+abbrev pub Bytes : Spaces → Type 0
+Bytes s = (l : Place) → get s l < 256

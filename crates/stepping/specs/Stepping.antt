@@ -6,9 +6,9 @@ use Rattle.space.specs.declared.Width.{Width}
 use Rattle.space.specs.declared.Width.the-variants.{Byte, Word}
 
 -- Memory bytes by 1, words and all I/O by 2.
-abbrev pub stride : Bool → Width → ℕ
-stride memory Byte = cond memory 1 2
-stride memory Word = 2
+abbrev pub stepSize : Bool → Width → ℕ
+stepSize memory Byte = cond memory 1 2
+stepSize memory Word = 2
 
 pub data Direction : Type 0 where
   Up : Direction
@@ -24,3 +24,9 @@ abbrev pub moved : ℕ → Direction → ℕ → ℕ → ℕ
 moved modulus Up by a = (a + by) % modulus
 moved modulus Down by a = (a + modulus - by) % modulus
 moved modulus Hold by a = a
+
+-- The same as a rise: down by the rest of a whole turn.
+abbrev pub rise : ℕ → Direction → ℕ → ℕ
+rise modulus Up by = by
+rise modulus Down by = modulus - by
+rise modulus Hold by = 0

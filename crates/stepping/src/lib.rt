@@ -1,13 +1,12 @@
 // How an address steps.
 ghost use mathlib.Core.Path.{_≡_};
 ghost use Prim.Native.Nat.{_≤_, _<_};
-ghost use Rattle.stepping.specs.Stepping.{stride, direction, moved};
-ghost use Rattle.stepping.specs.Laws.{rise};
+ghost use Rattle.stepping.specs.Stepping.{stepSize, direction, moved, rise};
 use space::Width;
 
 // By how much an address steps: memory bytes by 1, words and all I/O by 2.
-pub fn stride_of(memory: bool, w: Width) -> u32
-    ensures { λ r. ⌜ (r ≡ stride memory w) × (r ≤ 2) ⌝ }
+pub fn step_size(memory: bool, w: Width) -> u32
+    ensures { λ r. ⌜ (r ≡ stepSize memory w) × (r ≤ 2) ⌝ }
 {
     match w {
         Width::Byte => if memory { 1 } else { 2 },

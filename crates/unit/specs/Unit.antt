@@ -6,19 +6,19 @@ use Rattle.facts.specs.First.{firstOf}
 use Rattle.space.specs.declared.Width.{Width}
 use Rattle.space.specs.declared.Width.the-variants.{Byte, Word}
 use Rattle.space.specs.Space.{Spaces}
-use Rattle.board.specs.declared.Board.{Board}
-use Rattle.comparing.specs.declared.Compared.{Compared}
-use Rattle.counting.specs.Count.{fewer, terminal}
-use Rattle.comparing.specs.Comparison.{comparison}
-use Rattle.address.specs.declared.Address.{Address}
-use Rattle.address.specs.declared.Set.{Set}
-use Rattle.address.specs.Address.{isOdd}
-use Rattle.mode.specs.declared.Mode.{Mode}
-use Rattle.operation.specs.declared.Moves.{Moves}
-use Rattle.operation.specs.declared.Operation.{Operation}
-use Rattle.operation.specs.Operation.{carried, datumWidth}
-use Rattle.mode.specs.Mode.{operationOf, isFlipped, matchControl}
-use Rattle.accesses.specs.Accesses.{Access, readsOf, writesOf, datumAt, storedAt, steppedSet}
+use Rattle.space_board.specs.declared.Board.{Board}
+use Rattle.unit_comparison.specs.declared.Compared.{Compared}
+use Rattle.unit_count.specs.Count.{fewer, terminal}
+use Rattle.unit_comparison.specs.Comparison.{comparison}
+use Rattle.word_address.specs.declared.Address.{Address}
+use Rattle.word_address.specs.declared.Set.{Set}
+use Rattle.word_address.specs.Address.{isOdd}
+use Rattle.word_mode.specs.declared.Mode.{Mode}
+use Rattle.word_operation.specs.declared.Moves.{Moves}
+use Rattle.word_operation.specs.declared.Operation.{Operation}
+use Rattle.word_operation.specs.Operation.{carried, datumWidth}
+use Rattle.word_mode.specs.Mode.{operationOf, isFlipped, matchControl}
+use Rattle.unit_accesses.specs.Accesses.{Access, readsOf, writesOf, datumAt, storedAt, steppedSet}
 use Rattle.unit.specs.declared.Moved.{Moved}
 use Rattle.unit.specs.declared.Work.{Work}
 

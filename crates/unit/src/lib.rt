@@ -2,15 +2,15 @@
 ghost use mathlib.Core.Path.{_≡_};
 ghost use Rattle.space.specs.Space.{spaces};
 ghost use mathlib.Core.Bool.{cond};
-ghost use Rattle.comparing.specs.Comparison.{comparison};
+ghost use Rattle.unit_comparison.specs.Comparison.{comparison};
 ghost use Rattle.unit.specs.Unit.{oddAt, oddWord, unitRefusal, whole, worked};
-use address::Address;
-use address::Set;
-use board::Board;
-use comparing::Compared;
-use mode::Mode;
-use operation::Moves;
 use space::Width;
+use space_board::Board;
+use unit_comparison::Compared;
+use word_address::Address;
+use word_address::Set;
+use word_mode::Mode;
+use word_operation::Moves;
 
 // What a unit works on.
 pub struct Work {
@@ -75,7 +75,7 @@ fn compare(
     ensures { λ r. ⌜ r ≡ cond compares (comparison width datum pattern mask control) kept ⌝ }
 {
     if compares {
-        comparing::compare(width, datum, pattern, mask, control)
+        unit_comparison::compare(width, datum, pattern, mask, control)
     } else {
         kept
     }
@@ -89,7 +89,7 @@ pub fn carry(w: Work, memory: &mut [u8], io: &mut [u8]) -> Moved
     let set = w.set;
     let o = mode.operation();
     let moves = o.moves;
-    let done = accesses::access(moves, mode.is_flipped(), set, memory, io);
+    let done = unit_accesses::access(moves, mode.is_flipped(), set, memory, io);
     let next = done.set;
     let compared = compare(
         o.compares,
@@ -103,6 +103,6 @@ pub fn carry(w: Work, memory: &mut [u8], io: &mut [u8]) -> Moved
     Moved {
         set: next,
         compared,
-        tc: counting::is_terminal(next.count),
+        tc: unit_count::is_terminal(next.count),
     }
 }

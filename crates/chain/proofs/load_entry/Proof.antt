@@ -1,5 +1,5 @@
 use borrow.Author.Needs.{needs}
-use Rattle.chain.proofs.Laws.{address-loads, register-loads}
+use Rattle.chain.proofs.CodeLaws.{address-loads, register-loads}
 use Rattle.chain.proofs.load_entry.Statement.{statement}
 use Rattle.chain.proofs.load_entry.Tie as tie
 

@@ -1,9 +1,8 @@
 use borrow.Author.Needs.{needs}
-use Rattle.host.specs.Calls.{steppedLeft}
-use Rattle.host.specs.Calls.{steppedAs}
+use Rattle.host.specs.Calls.{steppedLeft, steppedAs}
 use mathlib.Core.Path.{_∙_, ap}
-use Rattle.controller.specs.Step.{RunOutcome}
-use Rattle.running.specs.Laws.{by-one}
+use Rattle.step.specs.Step.{RunOutcome}
+use Rattle.call_run.proofs.Laws.{by-one}
 use Rattle.host.proofs.einflyga_step.Statement.{statement}
 use Rattle.host.proofs.einflyga_step.Tie as tie
 

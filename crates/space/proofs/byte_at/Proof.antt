@@ -2,7 +2,7 @@ use borrow.Author.Needs.{needs}
 use mathlib.Core.Path.{sym}
 use denote.Ref.{now}
 use lib.ListN.{List·getD-eq-default}
-use Rattle.facts.specs.Lists.{getD-in}
+use Rattle.facts.proofs.Lists.{getD-in}
 use Rattle.space.proofs.byte_at.Statement.{statement}
 use Rattle.space.proofs.byte_at.Tie as tie
 

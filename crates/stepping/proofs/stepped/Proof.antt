@@ -2,7 +2,7 @@ use borrow.Author.Needs.{needs}
 use native.Mathlib.Omega.{arith}
 use mathlib.Core.Path.{sym}
 use Rattle.stepping.specs.Stepping.{direction}
-use Rattle.stepping.specs.Laws.{moved-rises}
+use Rattle.stepping.proofs.Laws.{moved-rises}
 use Rattle.stepping.proofs.stepped.Statement.{statement}
 use Rattle.stepping.proofs.stepped.Tie as tie
 

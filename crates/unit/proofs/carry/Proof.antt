@@ -1,5 +1,5 @@
 use borrow.Author.Needs.{needs}
-use Rattle.unit.proofs.Laws.{carried}
+use Rattle.unit.proofs.CodeLaws.{carried}
 use Rattle.unit.proofs.carry.Statement.{statement}
 use Rattle.unit.proofs.carry.Tie as tie
 

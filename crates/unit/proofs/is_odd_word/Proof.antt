@@ -1,5 +1,5 @@
 use borrow.Author.Needs.{needs}
-use Rattle.unit.proofs.Laws.{transfer-odd, search-odd, funnel-odd}
+use Rattle.unit.proofs.CodeLaws.{transfer-odd, search-odd, funnel-odd}
 use Rattle.unit.proofs.is_odd_word.Statement.{statement}
 use Rattle.unit.proofs.is_odd_word.Tie as tie
 

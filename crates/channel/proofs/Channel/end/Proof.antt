@@ -1,6 +1,6 @@
 use borrow.Author.Needs.{needs}
 use Rattle.channel.specs.Ending.{endOf}
-use Rattle.channel.proofs.Laws.{end-finished}
+use Rattle.channel.proofs.CodeLaws.{end-finished}
 use Rattle.channel.proofs.Channel.end.Statement.{statement}
 use Rattle.channel.proofs.Channel.end.Tie as tie
 

@@ -1,6 +1,6 @@
 use borrow.Author.Needs.{needs}
 use Rattle.channel.specs.Ending.{interrupted}
-use Rattle.channel.proofs.Laws.{first-interrupt}
+use Rattle.channel.proofs.CodeLaws.{first-interrupt}
 use Rattle.channel.proofs.Channel.interrupt_for.Statement.{statement}
 use Rattle.channel.proofs.Channel.interrupt_for.Tie as tie
 

@@ -1,2 +1,0 @@
-pub mod Accesses
-pub mod Laws

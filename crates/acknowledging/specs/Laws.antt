@@ -1,8 +1,0 @@
--- A refused acknowledge changes nothing. Assumes nothing.
-use mathlib.Core.Path.{_≡_, refl}
-use mathlib.Core.Bool.{false}
-use Rattle.controller.specs.declared.Controller.{Controller}
-use Rattle.acknowledging.specs.Acknowledge.{acknowledgeBy}
-
-pub refused-keeps : (u : Controller) → acknowledgeBy false false u .state ≡ u
-refused-keeps u = refl

@@ -1,3 +1,0 @@
-pub mod Acknowledge
-pub mod Answers
-pub mod Laws

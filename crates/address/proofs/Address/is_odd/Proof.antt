@@ -1,9 +1,0 @@
-use Rattle.facts.specs.Masks.{masks}
-use Rattle.address.proofs.Address.is_odd.Statement.{statement}
-use Rattle.address.proofs.Address.is_odd.Tie as tie
-
-pub is-odd-spec : {M : Type 1} → statement M
-is-odd-spec =
-    tie.close
-    (tie.spec
-    (λ c. simp masks))

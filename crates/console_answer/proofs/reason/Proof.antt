@@ -1,0 +1,15 @@
+use borrow.Author.Needs.{needs}
+use mathlib.Core.Path.{sym}
+use Rattle.text_print.proofs.Laws.{room}
+use Rattle.console_answer.specs.Wording.{ifSo}
+use Rattle.console_answer.proofs.reason.Statement.{statement}
+use Rattle.console_answer.proofs.reason.Tie as tie
+
+pub reason-spec : {M : Type 1} → statement M
+unfolding ifSo
+reason-spec =
+    tie.close
+    (tie.spec
+    (λ c κs. search needs)
+    (λ c. rw (c .with .ensures, c .before .if1 .taken))
+    (λ c. rw (c .if1 .left) (sym (room (c .before .before .args .t) (search needs)))))

@@ -1,0 +1,115 @@
+// The words of the console: the line that each answer prints.
+ghost use mathlib.Core.Path.{_≡_};
+ghost use mathlib.Core.List.{_++_};
+ghost use Rattle.text_scan.specs.Words.{bytes};
+ghost use Rattle.text_print.specs.Text.{written, appended, line, channelOf};
+ghost use Rattle.console_answer.specs.Wording.{ifSo, reasonsOf, answerOf, writeOf, readOf, levelOf, lineOf, acknowledgeOf, runOf};
+use call_acknowledge::AckAnswer;
+use call_command::Writing;
+use call_line::LineAnswer;
+use call_read::Reading;
+use port::Which;
+use step::Answer;
+use text_print::Text;
+use word_mode::Reasons;
+
+fn reason(t: Text, applies: bool, name: &[u8]) -> Text
+    ensures { λ r. ⌜ written r ≡ appended (written t) (ifSo applies (now (name .entry))) ⌝ }
+{
+    if applies {
+        return t.with(name);
+    }
+    t
+}
+
+fn reasons(t: Text, why: Reasons) -> Text
+    ensures { λ r. ⌜ written r ≡ appended (written t) (reasonsOf why) ⌝ }
+{
+    reason(
+        reason(reason(t, why.tc, b" TC"), why.mc, b" MC"),
+        why.eop,
+        b" EOP",
+    )
+}
+
+fn answer(t: Text, a: Answer) -> Text
+    ensures { λ r. ⌜ written r ≡ appended (written t) (answerOf a) ⌝ }
+{
+    match a {
+        Answer::Refused(n) => console_refusal::refusal(t, n),
+        Answer::Disabled => t.with(b"0 disabled"),
+        Answer::Idle => t.with(b"0 idle"),
+        Answer::GivenBack(_) => t.with(b"0 given back"),
+        Answer::Holding(w) => t.channel(w).with(b" holding"),
+        Answer::Fetched(w, _) => t.channel(w).with(b" fetched"),
+        Answer::Dropped(w) => t.channel(w).with(b" dropped"),
+        Answer::Unit(w, d) => reasons(t.channel(w).with(b" unit"), d.why),
+        Answer::Ended(w) => t.channel(w).with(b" ended"),
+    }
+}
+
+pub fn write(a: Writing) -> Text
+    ensures { λ r. ⌜ written r ≡ line (writeOf a) ⌝ }
+{
+    match a {
+        Writing::Refused(n) => console_refusal::refusal(text_print::empty(), n),
+        Writing::Taken => text_print::of(b"written"),
+    }
+}
+
+pub fn read(a: Reading) -> Text
+    ensures { λ r. ⌜ written r ≡ line (readOf a) ⌝ }
+{
+    match a {
+        Reading::Refused(n) => console_refusal::refusal(text_print::empty(), n),
+        Reading::Value(w) => text_print::of(b"read ").hex4(w),
+    }
+}
+
+fn level(c: u8, active: bool) -> Text
+    ensures { λ r. ⌜ written r ≡ line (levelOf c active) ⌝ }
+{
+    let t = text_print::of(b"line ").decimal(c as u64);
+    if active {
+        return t.with(b" active");
+    }
+    t.with(b" inactive")
+}
+
+pub fn line(c: u8, active: bool, a: LineAnswer) -> Text
+    ensures { λ r. ⌜ written r ≡ line (lineOf c active a) ⌝ }
+{
+    match a {
+        LineAnswer::Refused(n) => console_refusal::refusal(text_print::empty(), n),
+        LineAnswer::Taken => level(c, active),
+    }
+}
+
+fn acknowledged(w: Which) -> Text
+    ensures { λ r. ⌜ written r ≡ line (bytes "acknowledged " ++ channelOf w) ⌝ }
+{
+    text_print::of(b"acknowledged ").channel(w)
+}
+
+pub fn acknowledge(a: AckAnswer) -> Text
+    ensures { λ r. ⌜ written r ≡ line (acknowledgeOf a) ⌝ }
+{
+    match a {
+        AckAnswer::Refused(n) => console_refusal::refusal(text_print::empty(), n),
+        AckAnswer::Word(w, word) => acknowledged(w).with(b" ").hex4(word),
+        AckAnswer::NoWord(w) => acknowledged(w),
+    }
+}
+
+pub fn step(a: Answer) -> Text
+    ensures { λ r. ⌜ written r ≡ line (answerOf a) ⌝ }
+{
+    answer(text_print::empty(), a)
+}
+
+pub fn run(steps: u32, a: Answer) -> Text
+    ensures { λ r. ⌜ written r ≡ line (runOf steps a) ⌝ }
+{
+    let t = text_print::of(b"ran ").decimal(steps as u64);
+    answer(t.with(b" "), a)
+}

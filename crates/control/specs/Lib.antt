@@ -1,3 +1,0 @@
-pub mod Set
-pub mod After
-pub mod Laws

@@ -1,7 +1,0 @@
-pub mod Set
-pub mod Controller
-pub mod Choice
-pub mod Laws
-pub mod Fetching
-pub mod Step
-pub mod Answers

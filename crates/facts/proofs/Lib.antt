@@ -1,0 +1,7 @@
+pub mod Below
+pub mod Bits
+pub mod First
+pub mod Lists
+pub mod Look
+pub mod Masks
+pub mod Rows

@@ -1,2 +1,0 @@
-pub mod Funnel
-pub mod FunnelLaws

@@ -1,0 +1,14 @@
+use borrow.Author.Needs.{needs}
+use Rattle.host_answer.proofs.read_number.Statement.{statement}
+use Rattle.host_answer.proofs.read_number.Tie as tie
+
+pub read-number-spec : {M : Type 1} → statement M
+read-number-spec =
+    tie.close
+    (tie.spec
+    (λ c. search needs)
+    (λ c. search needs)
+    (λ c. search needs)
+    (λ c κs. search needs)
+    (λ c. search needs)
+    (λ c. rw (c .before .before .a2 .given .1, c .pack .ensures)))

@@ -1,9 +1,0 @@
-use Rattle.facts.specs.Masks.{masks}
-use Rattle.mode.proofs.Mode.is_requested.Statement.{statement}
-use Rattle.mode.proofs.Mode.is_requested.Tie as tie
-
-pub is-requested-spec : {M : Type 1} → statement M
-is-requested-spec =
-    tie.close
-    (tie.spec
-    (λ c. simp masks))

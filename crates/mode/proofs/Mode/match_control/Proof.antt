@@ -1,9 +1,0 @@
-use Rattle.facts.specs.Masks.{masks}
-use Rattle.mode.proofs.Mode.match_control.Statement.{statement}
-use Rattle.mode.proofs.Mode.match_control.Tie as tie
-
-pub match-control-spec : {M : Type 1} → statement M
-match-control-spec =
-    tie.close
-    (tie.spec
-    (λ c. simp masks))

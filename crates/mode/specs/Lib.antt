@@ -1,2 +1,0 @@
-pub mod Mode
-pub mod Laws

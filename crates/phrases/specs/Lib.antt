@@ -1,2 +1,0 @@
-pub mod Phrases
-pub mod Laws

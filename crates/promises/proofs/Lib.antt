@@ -1,0 +1,16 @@
+pub mod Demand1
+pub mod Demand2b
+pub mod Demand2c
+pub mod Demand3
+pub mod FunnelWitness
+pub mod Machine
+pub mod Own
+pub mod Paced
+pub mod Points
+pub mod Reached
+pub mod Running
+pub mod WellCalls
+pub mod WellChannel
+pub mod WellEnding
+pub mod WellStep
+pub mod Witness

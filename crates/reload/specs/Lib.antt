@@ -1,3 +1,0 @@
-pub mod Reload
-pub mod Laws
-pub mod Length

@@ -1,3 +1,0 @@
-pub mod Rules
-pub mod Turns
-pub mod View

@@ -1,9 +1,0 @@
-use Rattle.showing.proofs.fetched.Statement.{statement}
-use Rattle.showing.proofs.fetched.Tie as tie
-
-pub fetched-spec : {M : Type 1} → statement M
-fetched-spec =
-    tie.close
-    (tie.spec
-    (λ c. rw (c .if1 .taken))
-    (λ c. rw (c .if1 .left)))

@@ -1,3 +1,0 @@
-pub mod Stride
-pub mod StrideLaws
-pub mod PairLaws

@@ -1,9 +1,0 @@
-use Rattle.facts.specs.Masks.{masks}
-use Rattle.tag.proofs.is_memory.Statement.{statement}
-use Rattle.tag.proofs.is_memory.Tie as tie
-
-pub is-memory-spec : {M : Type 1} → statement M
-is-memory-spec =
-    tie.close
-    (tie.spec
-    (λ c. simp masks))

@@ -1,9 +1,0 @@
--- Document 01, "Refusal numbers": the answer of a line's level, as document 01 gives it. Assumes nothing.
-use Prim.Native.Nat.{ℕ}
-use Rattle.udc.specs.declared.LineAnswer.{LineAnswer}
-use Rattle.udc.specs.declared.LineAnswer.the-variants.{Refused, Taken}
-
--- refusal number or 0
-abbrev pub paperLine : LineAnswer → ℕ
-paperLine (Refused n) = n
-paperLine Taken = 0

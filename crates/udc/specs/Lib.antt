@@ -1,3 +1,0 @@
-pub mod Reset
-pub mod Lines
-pub mod Answers

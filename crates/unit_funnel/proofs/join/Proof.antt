@@ -1,0 +1,14 @@
+use borrow.Author.Needs.{needs}
+use Rattle.unit_funnel.proofs.join.Statement.{statement}
+use Rattle.unit_funnel.proofs.join.Tie as tie
+
+pub join-spec : {M : Type 1} → statement M
+join-spec =
+    tie.close
+    (tie.spec
+    (λ c. search needs)
+    (λ c. search needs)
+    (λ c. search needs)
+    (λ c. search needs)
+    (λ c. cc)
+    (λ c. cc))

@@ -1,0 +1,10 @@
+pub mod Area
+pub mod Block
+pub mod Fair
+pub mod Funnel
+pub mod Inter
+pub mod Local
+pub mod Machine
+pub mod Op
+pub mod Pace
+pub mod Search
