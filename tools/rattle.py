@@ -75,10 +75,10 @@ class Declaration:
             names.update(w.strip("(){}") for w in left[1:] if w.strip("(){}")[:1].islower() and w.strip("(){}") not in self.file.constructors)
         return names
 
-    def named(self):
-        """The keys of what the declaration names."""
+    def named(self, statement=False):
+        """The keys of what the declaration names; of a theorem's statement what its type names."""
         keys = set()
-        for clause in self.clauses() + ([self.section] if self.section else []):
+        for clause in (self.clauses()[:1] if statement else self.clauses()) + ([self.section] if self.section else []):
             hidden = self.bound(clause) | (self.bound(self.section) if self.section else set())
             fields = re.sub(r"^(\s+)[^\s=]+ =(?=\s)", r"\1", clause, flags=re.M) if "record {" in clause else clause
             for word in NAME.findall(MADE_FIELD.sub(r"\1", fields)):
@@ -219,6 +219,11 @@ class Crates:
             return self.type.get((module[0], made[1]))
         file = self.module.get(module)
         return self.declared[file.own[name]] if file and name in file.own else None
+
+    def theorem(self, name):
+        """A theorem, by its crate, its file and its name."""
+        crate, module, theorem = name.split()
+        return self.declared[((crate, "proofs", module), theorem)]
 
     def reached(self, keys):
         """Every declaration that the keys reach."""

@@ -167,7 +167,10 @@ extern "C" {
 #define EINFLYGA_SAVE_EOP 0x0200
 #define EINFLYGA_SAVE_TC 0x0100
 
-/* Why a call was refused; a refused call changes nothing. */
+/*
+ * Why a call was refused. A refused call leaves every word and every byte that it is lent exactly as it was, whatever
+ * they are; a run that a later step stops keeps the steps before.
+ */
 enum einflyga_refusal {
     EINFLYGA_CARRIED_OUT = 0,
     EINFLYGA_NO_REGISTER = 1,             /* no register at the pointer for this direction */
@@ -220,7 +223,7 @@ uint32_t einflyga_write(uint16_t state[EINFLYGA_WORDS], uint16_t value);
 uint32_t einflyga_read(const uint16_t state[EINFLYGA_WORDS]);
 
 /* Puts a channel's request line at a level. Refusal 10. */
-uint32_t einflyga_line(uint16_t state[EINFLYGA_WORDS], uint8_t channel, bool active);
+uint32_t einflyga_line(uint16_t state[EINFLYGA_WORDS], uint32_t channel, bool active);
 
 /* Acknowledges an interrupt: einflyga_acknowledged_channel, einflyga_has_save, einflyga_answer_value. Refusal 9. */
 uint32_t einflyga_acknowledge(uint16_t state[EINFLYGA_WORDS]);

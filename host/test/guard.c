@@ -1,5 +1,6 @@
 /* Any words as state, and every call: nothing is touched outside what is lent. State and spaces stand against pages that cannot be
-   touched, first at their ends and then at their beginnings, so that one byte too far, read or written, kills the program. */
+   touched, first at their ends and then at their beginnings, so that one byte too far, read or written, kills the program.
+   A refused call leaves such words as they were. */
 #define _DEFAULT_SOURCE
 #include "einflyga.h"
 
@@ -11,6 +12,7 @@
 enum { PAGE = 4096, LONGEST = 2 * PAGE, ROUNDS = 20000 };
 
 static uint64_t seed = 0x9516, steps;
+static uint64_t refused[EINFLYGA_RUN_TOO_LONG + 1]; /* how often by each number */
 
 static uint32_t random_number(void) {
     seed = seed * 6364136223846793005u + 1442695040888963407u;
@@ -56,7 +58,7 @@ static void call_all(uint16_t *state, uint8_t *memory, size_t memory_length, uin
     einflyga_read_pointer(state);
     einflyga_read(state);
     einflyga_write(state, (uint16_t)random_number());
-    einflyga_line(state, (uint8_t)(random_number() % 4), random_number() % 2);
+    einflyga_line(state, random_number() % 4, random_number() % 2);
     einflyga_acknowledge(state);
     einflyga_step(state, random_number() % 2, memory, memory_length, io, io_length);
     steps += einflyga_run_steps(einflyga_run(state, random_number() % 300, memory, memory_length, io, io_length));
@@ -64,6 +66,42 @@ static void call_all(uint16_t *state, uint8_t *memory, size_t memory_length, uin
         einflyga_reset(state);
     if (random_number() % 16 == 0)
         einflyga_fresh(state);
+}
+
+/* One of the calls that can be refused, and what refused it, if it made no step. */
+static enum einflyga_refusal call_one(int which, uint16_t *state, uint8_t *memory, size_t memory_length, uint8_t *io,
+                                      size_t io_length) {
+    uint32_t channel = random_number() % 4 + random_number() % 2 * 256;
+    uint64_t run;
+    switch (which) {
+    case 0:
+        return einflyga_answer_refusal(einflyga_write(state, (uint16_t)random_number()));
+    case 1:
+        return einflyga_answer_refusal(einflyga_line(state, channel, random_number() % 2));
+    case 2:
+        return einflyga_answer_refusal(einflyga_acknowledge(state));
+    case 3:
+        return einflyga_answer_refusal(einflyga_step(state, random_number() % 2, memory, memory_length, io, io_length));
+    default:
+        run = einflyga_run(state, random_number() % 8 ? 20 : EINFLYGA_LONGEST_RUN + 1, memory, memory_length, io,
+                           io_length);
+        return einflyga_run_steps(run) ? EINFLYGA_CARRIED_OUT : einflyga_answer_refusal(einflyga_run_last(run));
+    }
+}
+
+/* Where the call is refused the words are as they were, bit for bit. */
+static void refuse(int which, uint16_t *state, uint8_t *memory, size_t memory_length, uint8_t *io, size_t io_length) {
+    uint16_t before[EINFLYGA_WORDS];
+    some_state(state);
+    if (random_number() % 2)
+        state[0] = EINFLYGA_PORT_COMMAND(1);
+    memcpy(before, state, sizeof before);
+    enum einflyga_refusal number = call_one(which, state, memory, memory_length, io, io_length);
+    refused[number]++;
+    if (number != EINFLYGA_CARRIED_OUT && memcmp(before, state, sizeof before) != 0) {
+        fprintf(stderr, "refusal %d changed the words\n", number);
+        exit(EXIT_FAILURE);
+    }
 }
 
 int main(void) {
@@ -76,7 +114,14 @@ int main(void) {
         some_state(state);
         for (int again = 0; again < 4; again++)
             call_all(state, memory, memory_length, io, io_length);
+        for (int which = 0; which < 5; which++)
+            refuse(which, state, memory, memory_length, io, io_length);
     }
+    for (int number = 1; number <= EINFLYGA_RUN_TOO_LONG; number++)
+        if (refused[number] == 0) {
+            fprintf(stderr, "no call was refused by %d\n", number);
+            return EXIT_FAILURE;
+        }
     printf("%llu steps in runs\n", (unsigned long long)steps);
     return steps < 100000; /* a state that never moves would show nothing */
 }

@@ -94,6 +94,8 @@ static void pointer_line_and_reset(void) {
     CHECK(einflyga_answer_refusal(einflyga_read(state)) == EINFLYGA_NO_REGISTER);
     CHECK(einflyga_answer_refusal(einflyga_line(state, 2, true)) == EINFLYGA_CARRIED_OUT);
     CHECK(einflyga_answer_refusal(einflyga_line(state, 3, true)) == EINFLYGA_NO_CHANNEL);
+    CHECK(einflyga_answer_refusal(einflyga_line(state, 257, true)) == EINFLYGA_NO_CHANNEL);
+    CHECK(einflyga_answer_refusal(einflyga_line(state, UINT32_MAX, true)) == EINFLYGA_NO_CHANNEL);
     write_at(state, EINFLYGA_PORT_MASTER_MODE, EINFLYGA_MASTER_ENABLE);
     einflyga_reset(state);
     CHECK(read_at(state, EINFLYGA_PORT_MASTER_MODE) == 0);

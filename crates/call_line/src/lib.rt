@@ -34,7 +34,7 @@ fn with_line(w: Which, active: bool, u: Controller) -> Lined
     }
 }
 
-pub fn line(number: u8, active: bool, u: Controller) -> Lined
+pub fn line(number: u32, active: bool, u: Controller) -> Lined
     ensures { λ r. ⌜ r ≡ linedAt number active u ⌝ }
 {
     match number {

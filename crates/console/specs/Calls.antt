@@ -8,13 +8,13 @@ use Rattle.call_reset.specs.Reset.{resetOf}
 use Rattle.call_line.specs.Lines.{linedAt}
 use Rattle.call_acknowledge.specs.Acknowledge.{acknowledgeOf}
 use Rattle.call_run.specs.Run.{runOf}
-use Rattle.console_line.specs.declared.Call.{Call}
-use Rattle.console_line.specs.declared.Call.the-variants.{Reset, WritePointer, ReadPointer, Write, Read, Set, Get, Line, Acknowledge}
+use Rattle.console_line.specs.declared.RegisterCall.{RegisterCall}
+use Rattle.console_line.specs.declared.RegisterCall.the-variants.{Reset, WritePointer, ReadPointer, Write, Read, Set, Get, Line, Acknowledge}
 use Rattle.console_line.specs.declared.Advance.{Advance}
 use Rattle.console_line.specs.declared.Advance.the-variants.{Step, Run}
 
 -- The calls that reach the controller alone.
-unfoldable pub callOf : Call → Controller → Controller
+unfoldable pub callOf : RegisterCall → Controller → Controller
 callOf Reset u = resetOf u
 callOf (WritePointer w) u = pointed w u
 callOf ReadPointer u = u

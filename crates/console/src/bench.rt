@@ -9,9 +9,9 @@ ghost use Rattle.call_acknowledge.specs.Acknowledge.{acknowledgeOf};
 ghost use Rattle.console.specs.Calls.{callOf, leaves, advanceOf};
 use crate::print;
 use console_line::Advance;
-use console_line::Call;
 use console_line::Input;
 use console_line::LentSpace;
+use console_line::RegisterCall;
 use console_line::Request;
 use step::Controller;
 
@@ -99,7 +99,7 @@ fn read(u: Controller) {
 fn line(c: u8, active: bool, u: Controller) -> Controller
     ensures { λ r. ⌜ r ≡ linedAt c active u .state ⌝ }
 {
-    let lined = call_line::line(c, active, u);
+    let lined = call_line::line(c as u32, active, u);
     let answer = lined.answer;
     print::line(console_answer::line(c, active, answer));
     lined.state
@@ -115,36 +115,36 @@ fn acknowledge(u: Controller) -> Controller
 }
 
 // The controller is left as the model's definitions say.
-fn make(call: Call, u: Controller) -> Controller
+fn make(call: RegisterCall, u: Controller) -> Controller
     ensures { λ r. ⌜ r ≡ callOf call u ⌝ }
 {
     match call {
-        Call::Reset => {
+        RegisterCall::Reset => {
             print::line(console_message::reset());
             call_reset::reset(u)
         }
-        Call::WritePointer(w) => {
+        RegisterCall::WritePointer(w) => {
             let next = call_pointer::write_pointer(u, w);
             print::line(console_message::pointer(next.pointer));
             next
         }
-        Call::ReadPointer => {
+        RegisterCall::ReadPointer => {
             print::line(console_message::pointer(u.pointer));
             u
         }
-        Call::Write(w) => write(w, u),
-        Call::Read => {
+        RegisterCall::Write(w) => write(w, u),
+        RegisterCall::Read => {
             read(u);
             u
         }
-        Call::Set(p, w) => write(w, call_pointer::write_pointer(u, p)),
-        Call::Get(p) => {
+        RegisterCall::Set(p, w) => write(w, call_pointer::write_pointer(u, p)),
+        RegisterCall::Get(p) => {
             let next = call_pointer::write_pointer(u, p);
             read(next);
             next
         }
-        Call::Line(c, active) => line(c, active, u),
-        Call::Acknowledge => acknowledge(u),
+        RegisterCall::Line(c, active) => line(c, active, u),
+        RegisterCall::Acknowledge => acknowledge(u),
     }
 }
 

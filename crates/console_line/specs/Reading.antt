@@ -6,7 +6,7 @@ use lib.Dec.{eqb, ltb}
 use lib.ListN.{length, set}
 use Rattle.console_line.specs.declared.LentSpace.{LentSpace}
 use Rattle.console_line.specs.declared.LentSpace.the-variants as space
-use Rattle.console_line.specs.declared.Call.the-variants as call
+use Rattle.console_line.specs.declared.RegisterCall.the-variants as call
 use Rattle.console_line.specs.declared.Advance.the-variants as advance
 use Rattle.console_line.specs.declared.Request.{Request}
 use Rattle.console_line.specs.declared.Request.the-variants as request

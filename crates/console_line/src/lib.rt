@@ -97,7 +97,7 @@ pub enum LentSpace {
 }
 
 // The host's calls that reach the controller alone, with what they are given.
-pub enum Call {
+pub enum RegisterCall {
     Reset,
     WritePointer(u16),
     ReadPointer,
@@ -120,7 +120,7 @@ pub enum Request {
     Nothing,
     Unreadable,
     TooLarge,
-    Make(Call),
+    Make(RegisterCall),
     Advance(Advance),
     Poke(LentSpace, u32, usize),
     Peek(LentSpace, u32, u32),
@@ -159,14 +159,14 @@ fn pointer(s: &[u8]) -> Request
     ensures { λ r. ⌜ r ≡ pointerOf (now (s .entry)) ⌝ }
 {
     if s.len() == 0 {
-        return Request::Make(Call::ReadPointer);
+        return Request::Make(RegisterCall::ReadPointer);
     }
     let Number::Of(w) = text_scan::word(text_scan::first(s)) else {
         return Request::Unreadable;
     };
     last(
         text_scan::rest(s),
-        Request::Make(Call::WritePointer(low_word(w))),
+        Request::Make(RegisterCall::WritePointer(low_word(w))),
     )
 }
 
@@ -176,7 +176,10 @@ fn write(s: &[u8]) -> Request
     let Number::Of(w) = text_scan::word(text_scan::first(s)) else {
         return Request::Unreadable;
     };
-    last(text_scan::rest(s), Request::Make(Call::Write(low_word(w))))
+    last(
+        text_scan::rest(s),
+        Request::Make(RegisterCall::Write(low_word(w))),
+    )
 }
 
 fn set(s: &[u8]) -> Request
@@ -191,7 +194,7 @@ fn set(s: &[u8]) -> Request
     };
     last(
         text_scan::rest(s),
-        Request::Make(Call::Set(low_word(p), low_word(w))),
+        Request::Make(RegisterCall::Set(low_word(p), low_word(w))),
     )
 }
 
@@ -201,7 +204,10 @@ fn get(s: &[u8]) -> Request
     let Number::Of(p) = text_scan::word(text_scan::first(s)) else {
         return Request::Unreadable;
     };
-    last(text_scan::rest(s), Request::Make(Call::Get(low_word(p))))
+    last(
+        text_scan::rest(s),
+        Request::Make(RegisterCall::Get(low_word(p))),
+    )
 }
 
 fn line_level(c: u8, s: &[u8]) -> Request
@@ -209,10 +215,16 @@ fn line_level(c: u8, s: &[u8]) -> Request
 {
     let level = text_scan::first(s);
     if text_scan::same(level, b"active") {
-        return last(text_scan::rest(s), Request::Make(Call::Line(c, true)));
+        return last(
+            text_scan::rest(s),
+            Request::Make(RegisterCall::Line(c, true)),
+        );
     }
     if text_scan::same(level, b"inactive") {
-        return last(text_scan::rest(s), Request::Make(Call::Line(c, false)));
+        return last(
+            text_scan::rest(s),
+            Request::Make(RegisterCall::Line(c, false)),
+        );
     }
     Request::Unreadable
 }
@@ -353,14 +365,14 @@ fn ask(name: Name, s: &[u8]) -> Request
     ensures { λ r. ⌜ r ≡ askOf name (now (s .entry)) ⌝ }
 {
     match name {
-        Name::Reset => last(s, Request::Make(Call::Reset)),
+        Name::Reset => last(s, Request::Make(RegisterCall::Reset)),
         Name::Pointer => pointer(s),
         Name::Write => write(s),
-        Name::Read => last(s, Request::Make(Call::Read)),
+        Name::Read => last(s, Request::Make(RegisterCall::Read)),
         Name::Set => set(s),
         Name::Get => get(s),
         Name::Line => line(s),
-        Name::Acknowledge => last(s, Request::Make(Call::Acknowledge)),
+        Name::Acknowledge => last(s, Request::Make(RegisterCall::Acknowledge)),
         Name::Step => step(s),
         Name::Run => run(s),
         Name::Peek => peek(s),

@@ -4,7 +4,24 @@ ghost use Rattle.space.specs.Space.{spaces};
 ghost use Rattle.host_state.specs.Load.{stateOf};
 ghost use Rattle.host_answer.specs.Numbers.{readNumber};
 ghost use Rattle.call_read.specs.Reading.{readOf};
-ghost use Rattle.host.specs.Calls.{returned, crossed, freshLeft, resetLeft, pointedLeft, writtenLeft, linedLeft, acknowledgedLeft, steppedLeft, ranLeft};
+ghost use Rattle.host.specs.Calls.{returned, crossed, isRefusal, wordsAfter, freshLeft, resetLeft, pointedLeft, writtenLeft, linedLeft, acknowledgedLeft, steppedLeft, ranLeft};
+use step::Controller;
+
+fn is_refusal(number: u64) -> bool
+    ensures { λ r. ⌜ r ≡ isRefusal number ⌝ }
+{
+    (0 < number) & (number < 256)
+}
+
+// A refused call stores nothing, so that words which no state has stay as they were.
+fn store_unless_refused(state: &mut [u16; 72], number: u64, next: Controller)
+    ensures { λ _. ⌜ now (state .exit) ≡ wordsAfter number next (now (state .entry)) ⌝ }
+{
+    if is_refusal(number) {
+        return;
+    }
+    *state = host_state::store(next);
+}
 
 #[no_mangle]
 pub extern "C" fn einflyga_fresh(state: &mut [u16; 72])
@@ -48,8 +65,9 @@ pub extern "C" fn einflyga_write(state: &mut [u16; 72], value: u16) -> u32
     let written = call_write::write(value, u);
     let next = written.state;
     let answer = written.answer;
-    *state = host_state::store(next);
-    host_answer::write_number(answer)
+    let number = host_answer::write_number(answer);
+    store_unless_refused(state, number as u64, next);
+    number
 }
 
 #[no_mangle]
@@ -61,7 +79,7 @@ pub extern "C" fn einflyga_read(state: &[u16; 72]) -> u32
 }
 
 #[no_mangle]
-pub extern "C" fn einflyga_line(state: &mut [u16; 72], channel: u8, active: bool) -> u32
+pub extern "C" fn einflyga_line(state: &mut [u16; 72], channel: u32, active: bool) -> u32
     ensures { λ r. ⌜ returned r (now (state .exit)) ≡ linedLeft channel active (now (state .entry)) ⌝ }
 {
     let entry = *state;
@@ -69,8 +87,9 @@ pub extern "C" fn einflyga_line(state: &mut [u16; 72], channel: u8, active: bool
     let lined = call_line::line(channel, active, u);
     let next = lined.state;
     let answer = lined.answer;
-    *state = host_state::store(next);
-    host_answer::line_number(answer)
+    let number = host_answer::line_number(answer);
+    store_unless_refused(state, number as u64, next);
+    number
 }
 
 #[no_mangle]
@@ -82,8 +101,9 @@ pub extern "C" fn einflyga_acknowledge(state: &mut [u16; 72]) -> u32
     let acknowledged = call_acknowledge::acknowledge(u);
     let next = acknowledged.state;
     let answer = acknowledged.answer;
-    *state = host_state::store(next);
-    host_answer::ack_number(answer)
+    let number = host_answer::ack_number(answer);
+    store_unless_refused(state, number as u64, next);
+    number
 }
 
 #[no_mangle]
@@ -100,8 +120,9 @@ pub extern "C" fn einflyga_step(
     let stepped = call_run::advance(u, 1, eop, memory, io);
     let next = stepped.state;
     let answer = stepped.answer;
-    *state = host_state::store(next);
-    host_answer::step_number(answer)
+    let number = host_answer::step_number(answer);
+    store_unless_refused(state, number as u64, next);
+    number
 }
 
 #[no_mangle]
@@ -118,6 +139,7 @@ pub extern "C" fn einflyga_run(
     let ran = call_run::run(u, budget, memory, io);
     let next = ran.state;
     let answer = ran.answer;
-    *state = host_state::store(next);
-    host_answer::run_number(ran.steps, answer)
+    let number = host_answer::run_number(ran.steps, answer);
+    store_unless_refused(state, number, next);
+    number
 }

@@ -1,205 +1,151 @@
--- Demand 1: any call is carried out or refused by a number from the list; a refused call changes nothing, and its values are 0; each
--- refusal is given exactly when the table says, in its order. Assumes nothing.
--- ---- register read
-use mathlib.Core.Path.{_≡_, refl, sym, ap, _∙_}
-use mathlib.Core.Bool.{Bool, true, false, not, cond, _&&_, _||_}
-use mathlib.Core.Logic.{_≢_}
-use mathlib.Core.List.{[], _∷_}
+-- Demand 1, one theorem over the Call. Assumes nothing.
+use mathlib.Core.Path.{_≡_, refl, sym, ap, _∙_, subst}
+use mathlib.Core.Bool.{Bool, true, false, cond}
+use mathlib.Core.Logic.{_⊎_, inl, inr, _≢_}
+use mathlib.Core.List.{List, [], _∷_}
 use Prim.Native.Nat.{ℕ}
-use lib.Dec.{eqb}
-use Rattle.facts.specs.Look.{look}
-use Rattle.space.specs.Space.{Spaces}
-use Rattle.port.specs.declared.Which.{Which}
-use Rattle.port.specs.declared.Which.the-variants.{One, Two}
-use Rattle.port_read.specs.declared.ReadPort.{ReadPort}
-use Rattle.port_read.specs.declared.ReadPort.the-variants as reads
-use Rattle.port_write.specs.declared.WritePort.{WritePort}
-use Rattle.port_write.specs.declared.WritePort.the-variants as writes
-use Rattle.port_read.specs.Readable.{readPort}
-use Rattle.port_write.specs.Writable.{writePort}
-use Rattle.word_command.specs.declared.Command.{Command}
-use Rattle.word_command.specs.declared.Command.the-variants.{Reset, Interrupts, SoftwareRequest, Flip, HardwareMask, StartChain, Unknown}
-use Rattle.word_command.specs.Command.{commandOf}
-use Rattle.channel.specs.declared.Channel.{Channel}
-use Rattle.word_reload.specs.declared.Stage.{Stage}
-use Rattle.step.specs.declared.Controller.{Controller}
-use Rattle.word_reload.specs.declared.Stage.the-variants.{Reload}
-use Rattle.step_rules.specs.declared.Choice.{Choice}
-use Rattle.step_rules.specs.declared.Choice.the-variants as chosen
-use Rattle.step.specs.declared.Answer.the-variants as answer
-use Rattle.step.specs.Answers.{paper}
-use Rattle.step.specs.Controller.{at}
-use Rattle.call_acknowledge.proofs.Laws.{refused-keeps}
+use native.Mathlib.Omega.{arith}
+use borrow.Author.Tests.{lt-ltb, le-ltb}
+use lib.Dec.{ltb}
 use Rattle.facts.specs.First.{firstOf}
 use Rattle.facts.proofs.First.{exactly}
-use Rattle.space_board.specs.Board.{boardOf}
-use Rattle.step_rules.specs.Rules.{refusals}
-use Rattle.step_rules.proofs.View.{Intends, intended}
-use Rattle.step_rules.proofs.View.Intends.{disabled, goes-on, noted, keeps, holds, releases, begins-chain, begins-unit, idle}
-use Rattle.step_rules.proofs.View.Because.{as-intended, refused}
-use Rattle.step.specs.Choice.{factsOf, faultsOf, choice}
-use Rattle.step.proofs.Laws.{Chosen, chosen as why}
-use Rattle.step.specs.Fetching.{dropOf, fetchOf}
-use Rattle.step.specs.Step.{outcome, says, unitOf, holdOf, performOf, stepOf}
-use Rattle.call_command.specs.declared.Written.{Written}
-use Rattle.call_read.specs.Reading.{readBy, readOf}
-use Rattle.port.specs.Ports.{isOther}
-use Rattle.channel_command.specs.Effects.{cannotChain}
-use Rattle.call_command.specs.Commands.{refuses, takes, unlessBusy, isBusy, carriedOut, isReset, commandedBy, commanded}
-use Rattle.call_write.specs.Writing.{writeBy, writeOf}
+use Rattle.space.specs.Space.{Spaces}
+use Rattle.unit_laws.specs.Machine.{iter}
+use Rattle.step.specs.declared.Controller.{Controller}
+use Rattle.step.specs.declared.Answer.the-variants as answer
+use Rattle.step.specs.Answers.{paper}
+use Rattle.step.specs.Step.{Outcome, outcome, says, RunOutcome, stepOf}
 use Rattle.call_read.specs.Answers.{paperRead}
-use Rattle.call_command.specs.Answers.{paperWrite}
-use Rattle.call_line.specs.Lines.{linedAt}
-use Rattle.call_acknowledge.specs.Acknowledge.{interrupts, isVectorless, answered, acknowledgedAt, acknowledgeBy, acknowledgeOf}
-use Rattle.call_line.specs.Answers.{paperLine}
+use Rattle.call_read.specs.Reading.{readOf}
 use Rattle.call_acknowledge.specs.Answers.{paperAck}
-use Rattle.promises.specs.Demand1.{noRead, OfRead, isUnknown, namesOther, cannotStart, writeTable, OfWrite, isChannel, OfLine, OfAcknowledge, stepTable, OfStep}
+use Rattle.call_acknowledge.specs.Acknowledge.{acknowledgeOf}
+use Rattle.call_command.specs.Answers.{paperWrite}
+use Rattle.call_write.specs.Writing.{writeOf}
+use Rattle.call_line.specs.Answers.{paperLine}
+use Rattle.call_line.specs.Lines.{linedAt}
+use Rattle.call_run.specs.Run.{runOf}
+use Rattle.promises.specs.Machine.{Machine, left, step}
+use Rattle.promises.specs.Calls.{Call, only, word-told, ack-told, step-told, run-outcome, call}
+use Rattle.promises.specs.Demand1.{stepTable, provided, runTable, table, Demand1}
+use Rattle.promises.specs.Running.{Whole, Stopped}
+use Rattle.promises.proofs.Refusals.{read-refused, write-refused, line-refused, ack-refused, step-refused}
+use Rattle.promises.proofs.Running as running
 
-read-looks : (p : ReadPort) (u : Controller)
-    → (paperRead (readBy p u) .number ≡ firstOf ((noRead p, 1) ∷ [])) × (paperRead (readBy p u) .number ≢ 0 → paperRead (readBy p u) .word ≡ 0)
-read-looks reads.MasterMode u = (refl, λ h. absurd (h refl))
-read-looks (reads.Status w) u = (refl, λ h. absurd (h refl))
-read-looks (reads.Save w) u = (refl, λ h. absurd (h refl))
-read-looks (reads.ModeHigh w) u = (refl, λ h. absurd (h refl))
-read-looks (reads.Of w r) u = (refl, λ h. absurd (h refl))
-read-looks reads.Nowhere u = (refl, λ h. refl)
+-- a refused step's answer has its number and nothing else
+told-only : (o : Outcome) (k n : ℕ) (u : Controller) (z : Spaces) → o ≡ outcome (says u (answer.Refused n)) z
+    → step-told (paper (o .stepped .answer)) k ≡ only (paper (o .stepped .answer) .number) k
+told-only o k n u z e = subst (λ (x : Outcome). step-told (paper (x .stepped .answer)) k ≡ only (paper (x .stepped .answer) .number) k) (sym e) refl
 
-pub read : (u : Controller) → OfRead u
-unfolding readOf
-read u = record {
-  refusals = exactly (paperRead (readBy (readPort (u .pointer)) u) .number) ((noRead (readPort (u .pointer)), 1) ∷ []) (read-looks (readPort (u .pointer)) u .0);
-  nothing = read-looks (readPort (u .pointer)) u .1;
+-- ---- a run
+
+provided-true : (t : List (Bool × ℕ)) → firstOf (provided true t) ≡ firstOf t
+provided-true [] = refl
+provided-true (e ∷ es) = ap (cond (e .0) (e .1)) (provided-true es)
+
+provided-false : (t : List (Bool × ℕ)) → firstOf (provided false t) ≡ 0
+provided-false [] = refl
+provided-false (e ∷ es) = provided-false es
+
+module _ (budget : ℕ) (m : Machine) where
+  abbrev r : RunOutcome
+  r = runOf budget (m .controller) (m .spaces)
+
+  abbrev number : ℕ
+  number = paper (r .last .stepped .answer) .number
+
+  -- the table of the step after those that are counted
+  abbrev last : List (Bool × ℕ)
+  last = stepTable (iter step (r .steps) m .controller) (iter step (r .steps) m .spaces)
+
+  -- what 11 leaves to the steps
+  carried-table : ltb 65536 budget ≡ false → (b : Bool) → ltb (r .steps) budget ≡ b → firstOf (runTable budget m) ≡ firstOf (provided b last)
+  carried-table e b f = (λ i. cond (e i) 11 (firstOf (provided (ltb (r .steps) budget) last))) ∙ ap (λ (x : Bool). firstOf (provided x last)) f
+
+  module _ (e : ltb 65536 budget ≡ false) where
+    carried-number : Whole budget 0 m r ⊎ Stopped budget 0 m r → number ≡ firstOf (runTable budget m)
+    carried-number (inl h) =
+        let s = h .steps in
+        h .unrefused ∙ sym (carried-table e false (le-ltb (r .steps) budget (omega arith)) ∙ provided-false last)
+    carried-number (inr h) =
+        let s = h .steps in let w = h .within in
+        let k : r .steps ≡ h .at = omega arith in
+        let x = iter step (h .at) m in
+        ap (λ (o : Outcome). paper (o .stepped .answer) .number) (h .last)
+        ∙ step-refused false (x .controller) (x .spaces) .0
+        ∙ ap (λ (i : ℕ). firstOf (stepTable (iter step i m .controller) (iter step i m .spaces))) (sym k)
+        ∙ sym (carried-table e true (lt-ltb (r .steps) budget (omega arith)) ∙ provided-true last)
+
+    carried-keeps : Whole budget 0 m r ⊎ Stopped budget 0 m r → number ≢ 0
+        → (left (r .last) ≡ iter step (r .steps) m) × (run-outcome r .told ≡ only number (r .steps))
+    carried-keeps (inl h) q = absurd (q (h .unrefused))
+    carried-keeps (inr h) q =
+        let s = h .steps in
+        let k : r .steps ≡ h .at = omega arith in
+        let x = iter step (h .at) m in
+        let n = step-refused false (x .controller) (x .spaces) .1 (λ y. q (ap (λ (o : Outcome). paper (o .stepped .answer) .number) (h .last) ∙ y)) in
+        (ap left (h .last ∙ n) ∙ ap (λ (i : ℕ). iter step i m) (sym k), told-only (r .last) (r .steps) _ _ _ (h .last ∙ n))
+
+  abbrev too-long : RunOutcome
+  too-long = record { last = outcome (says (m .controller) (answer.Refused 11)) (m .spaces); steps = 0 }
+
+  run-number : (b : Bool) → ltb 65536 budget ≡ b → number ≡ firstOf (runTable budget m)
+  run-number true e =
+      ap (λ (x : RunOutcome). paper (x .last .stepped .answer) .number) (running.run budget (m .controller) (m .spaces) .refused e)
+      ∙ sym (λ i. cond (e i) 11 (firstOf (provided (ltb (r .steps) budget) last)))
+  run-number false e = carried-number e (running.run budget (m .controller) (m .spaces) .carried e)
+
+  run-keeps : (b : Bool) → ltb 65536 budget ≡ b → number ≢ 0 → (left (r .last) ≡ iter step (r .steps) m) × (run-outcome r .told ≡ only number (r .steps))
+  run-keeps true e q =
+      let t = running.run budget (m .controller) (m .spaces) .refused e in (
+        ap (λ (x : RunOutcome). left (x .last)) t ∙ sym (ap (λ (x : RunOutcome). iter step (x .steps) m) t),
+        told-only (r .last) (r .steps) _ _ _ (ap (λ (x : RunOutcome). x .last) t),
+      )
+  run-keeps false e q = carried-keeps e (running.run budget (m .controller) (m .spaces) .carried e) q
+
+-- ---- any call
+
+pub demand1 : (c : Call) (m : Machine) → Demand1 c m
+unfolding call
+demand1 Call.reset m = record { refusals = exactly 0 [] refl; keeps = λ h. absurd (h refl); nothing = λ h. absurd (h refl) }
+demand1 (Call.write-pointer w) m = record { refusals = exactly 0 [] refl; keeps = λ h. absurd (h refl); nothing = λ h. absurd (h refl) }
+demand1 Call.read-pointer m = record { refusals = exactly 0 [] refl; keeps = λ h. absurd (h refl); nothing = λ h. absurd (h refl) }
+demand1 (Call.write w) m =
+    let l = write-refused w (m .controller) in
+    record {
+      refusals = exactly (paperWrite (writeOf w (m .controller) .answer)) (table (Call.write w) m) (l .number);
+      keeps = λ h. ap (λ (u : Controller). record { controller = u; spaces = m .spaces }) (l .nothing h);
+      nothing = λ h. refl;
+    }
+demand1 Call.read m =
+    let l = read-refused (m .controller) in
+    record {
+      refusals = exactly (paperRead (readOf (m .controller)) .number) (table Call.read m) (l .0);
+      keeps = λ h. refl;
+      nothing = λ h. ap (λ (v : ℕ). word-told (record { number = paperRead (readOf (m .controller)) .number; word = v })) (l .1 h);
+    }
+demand1 (Call.line n active) m =
+    let l = line-refused n active (m .controller) in
+    record {
+      refusals = exactly (paperLine (linedAt n active (m .controller) .answer)) (table (Call.line n active) m) (l .0);
+      keeps = λ h. ap (λ (u : Controller). record { controller = u; spaces = m .spaces }) (l .1 h);
+      nothing = λ h. refl;
+    }
+demand1 Call.acknowledge m =
+    let l = ack-refused (m .controller) in
+    record {
+      refusals = exactly (paperAck (acknowledgeOf (m .controller) .answer) .number) (table Call.acknowledge m) (l .0);
+      keeps = λ h. ap (λ (u : Controller). record { controller = u; spaces = m .spaces }) (l .1 h .0);
+      nothing = λ h. ap ack-told (l .1 h .1);
+    }
+demand1 (Call.step eop) m =
+    let l = step-refused eop (m .controller) (m .spaces) in
+    record {
+      refusals = exactly (paper (stepOf eop (m .controller) (m .spaces) .stepped .answer) .number) (table (Call.step eop) m) (l .0);
+      keeps = λ h. ap left (l .1 h);
+      nothing = λ h. told-only (stepOf eop (m .controller) (m .spaces)) 0 _ _ _ (l .1 h);
+    }
+demand1 (Call.run budget) m = record {
+  refusals = exactly (number budget m) (table (Call.run budget) m) (run-number budget m (ltb 65536 budget) refl);
+  keeps = λ h. run-keeps budget m (ltb 65536 budget) refl h .0;
+  nothing = λ h. run-keeps budget m (ltb 65536 budget) refl h .1;
 }
-
--- what is looked at of one write's outcome
-record Looked (r : Written) (n : ℕ) (u : Controller) : Type 0 where
-  number : paperWrite (r .answer) ≡ n
-  nothing : paperWrite (r .answer) ≢ 0 → r .state ≡ u
-
-refused-looks : (n : ℕ) (u : Controller) → Looked (refuses n u) n u
-refused-looks n u = record { number = refl; nothing = λ h. refl }
-
-taken-looks : (v u : Controller) → Looked (takes v) 0 u
-taken-looks v u = record { number = refl; nothing = λ h. absurd (h refl) }
-
-either-looks : (b : Bool) (n : ℕ) (v u : Controller) → Looked (cond b (refuses n u) (takes v)) (cond b n 0) u
-either-looks true n v u = refused-looks n u
-either-looks false n v u = taken-looks v u
-
--- a command that is carried out or refused by 3, 4 or 5
-afterBusy : Command → Which → Controller → ℕ
-afterBusy x k u = cond (isUnknown x) 3 (cond (namesOther x k) 4 (cond (cannotStart x u) 5 0))
-
-carried-looks : (x : Command) (k : Which) (u : Controller) → Looked (carriedOut x k u) (afterBusy x k u) u
-unfolding afterBusy
-carried-looks Reset k u = taken-looks _ u
-carried-looks (Interrupts j set e p) k u = either-looks (p && isOther k j) 4 _ u
-carried-looks (SoftwareRequest j set) k u = taken-looks _ u
-carried-looks (Flip j set) k u = taken-looks _ u
-carried-looks (HardwareMask j set) k u = taken-looks _ u
-carried-looks (StartChain j) k u = either-looks (cannotChain (at j u)) 5 _ u
-carried-looks Unknown k u = refused-looks 3 u
-
-commanded-looks : (reset busy : Bool) (x : Command) (k : Which) (u : Controller) → Looked (commandedBy reset busy x k u) (cond (busy && not reset) 2 (afterBusy x k u)) u
-commanded-looks true true x k u = carried-looks x k u
-commanded-looks true false x k u = carried-looks x k u
-commanded-looks false true x k u = refused-looks 2 u
-commanded-looks false false x k u = carried-looks x k u
-
--- a register's write that is no command
-plain-looks : (busy : Bool) (v u : Controller) → Looked (unlessBusy busy u (takes v)) (cond (busy && true) 2 0) u
-plain-looks true v u = refused-looks 2 u
-plain-looks false v u = taken-looks v u
-
-write-looks : (p : WritePort) (w : ℕ) (u : Controller) → Looked (writeBy p w u) (firstOf (writeTable p (isBusy u) w u)) u
-unfolding commanded afterBusy
-write-looks writes.MasterMode w u = plain-looks (isBusy u) _ u
-write-looks (writes.Command k) w u = commanded-looks (isReset (commandOf w)) (isBusy u) (commandOf w) k u
-write-looks (writes.Of k r) w u = plain-looks (isBusy u) _ u
-write-looks writes.Nowhere w u = refused-looks 1 u
-
-pub write : (w : ℕ) (u : Controller) → OfWrite w u
-unfolding writeOf
-write w u =
-    let l = write-looks (writePort (u .pointer)) w u in
-    record {
-      refusals = exactly (paperWrite (writeBy (writePort (u .pointer)) w u .answer)) (writeTable (writePort (u .pointer)) (isBusy u) w u) (l .number);
-      nothing = l .nothing;
-    }
-
-line-number : (a b : Bool) (n : ℕ) (active : Bool) (u : Controller) → eqb n 1 ≡ a → eqb n 2 ≡ b
-    → (paperLine (linedAt n active u .answer) ≡ firstOf ((not (a || b), 10) ∷ [])) × (paperLine (linedAt n active u .answer) ≢ 0 → linedAt n active u .state ≡ u)
-unfolding linedAt look
-line-number true b n active u ea eb = rw ea (refl, λ h. absurd (h refl))
-line-number false true n active u ea eb = rw (ea, eb) (refl, λ h. absurd (h refl))
-line-number false false n active u ea eb = rw (ea, eb) (refl, λ h. refl)
-
-pub line : (n : ℕ) (active : Bool) (u : Controller) → OfLine n active u
-line n active u =
-    let l = line-number (eqb n 1) (eqb n 2) n active u refl refl in
-    record { refusals = exactly (paperLine (linedAt n active u .answer)) ((not (isChannel n), 10) ∷ []) (l .0); nothing = l .1 }
-
-answered-number : (b : Bool) (w : Which) (c : Channel) → paperAck (answered b w c) .number ≡ 0
-answered-number true w c = refl
-answered-number false w c = refl
-
-ack-number : (a b : Bool) (u : Controller)
-    → (paperAck (acknowledgeBy a b u .answer) .number ≡ firstOf ((not (a || b), 9) ∷ []))
-    × (paperAck (acknowledgeBy a b u .answer) .number ≢ 0
-    → (acknowledgeBy a b u .state ≡ u) × (paperAck (acknowledgeBy a b u .answer) .channel ≡ 0) × (paperAck (acknowledgeBy a b u .answer) .word ≡ 0))
-unfolding acknowledgedAt
-ack-number true b u = let e = answered-number (isVectorless (u .master)) One (at One u) in (e, λ h. absurd (h e))
-ack-number false true u = let e = answered-number (isVectorless (u .master)) Two (at Two u) in (e, λ h. absurd (h e))
-ack-number false false u = (refl, λ h. (refused-keeps u, refl, refl))
-
-pub acknowledge : (u : Controller) → OfAcknowledge u
-unfolding acknowledgeOf
-acknowledge u =
-    let l = ack-number (interrupts (u .one)) (interrupts (u .two)) u in
-    record {
-      refusals = exactly (paperAck (acknowledgeBy (interrupts (u .one)) (interrupts (u .two)) u .answer) .number) ((not (interrupts (u .one) || interrupts (u .two)), 9) ∷ []) (l .0);
-      nothing = l .1;
-    }
-
-module _ (eop : Bool) (u : Controller) (z : Spaces) where
-  abbrev number : Choice → ℕ
-  number c = paper (performOf c eop u z .stepped .answer) .number
-
-  fetch-number : (w : Which) (s : Stage) → number (chosen.Fetch w s) ≡ 0
-  unfolding performOf dropOf fetchOf
-  fetch-number w s = go eop
-    where
-      go : (b : Bool) → paper (fetchOf w s b u (z .memory) .answer) .number ≡ 0
-      go true = refl
-      go false = refl
-
-  hold-number : (w : Which) → number (chosen.Hold w) ≡ 0
-  unfolding performOf holdOf
-  hold-number w = go eop
-    where
-      go : (b : Bool) → paper (holdOf w b u .answer) .number ≡ 0
-      go true = refl
-      go false = refl
-
-  -- what is intended has no number
-  unrefused : {c : Choice} → Intends (factsOf u) c → number c ≡ 0
-  unfolding performOf unitOf
-  unrefused (disabled e) = refl
-  unrefused (goes-on w s e c) = fetch-number w s
-  unrefused (noted e c n) = refl
-  unrefused (keeps w k) = refl
-  unrefused (holds w k h) = hold-number w
-  unrefused (releases w k h) = refl
-  unrefused (begins-chain w t p) = fetch-number w Reload
-  unrefused (begins-unit w t p) = refl
-  unrefused (idle t) = refl
-
-  -- only a refusal has a number, which is the table's, and it changes nothing
-  looked : {c : Choice} → Chosen (boardOf z) u c → (number c ≡ firstOf (stepTable u z)) × (number c ≢ 0 → performOf c eop u z ≡ outcome (says u (answer.Refused (number c))) z)
-  unfolding performOf
-  looked (as-intended i r) = (unrefused i ∙ sym r ∙ sym (ap (λ (x : Choice). firstOf (refusals x (faultsOf (boardOf z) u))) (intended (factsOf u) i)), λ h. absurd (h (unrefused i)))
-  looked (refused i r) = (sym (ap (λ (x : Choice). firstOf (refusals x (faultsOf (boardOf z) u))) (intended (factsOf u) i) ∙ r), λ h. refl)
-
-pub step : (eop : Bool) (u : Controller) (z : Spaces) → OfStep eop u z
-unfolding stepOf
-step eop u z = let l = looked eop u z (why (boardOf z) u) in record { refusals = exactly (number eop u z (choice (boardOf z) u)) (stepTable u z) (l .0); nothing = l .1 }

@@ -1,15 +1,21 @@
 -- Demand 3: two channels in Demand Interleave take turns, and where they keep apart the result is that of one after the other.
 -- Assumes nothing.
--- ---- what the stretch starts with
 use mathlib.Core.Path.{_≡_, refl, sym, ap, _∙_, subst}
-use mathlib.Core.Bool.{Bool, true, false, not, _&&_, _||_}
-use Prim.Native.Nat.{ℕ, zero, suc}
+use mathlib.Core.Logic.{inl, inr}
+use mathlib.Core.Bool.{Bool, true, false, not, cond, _&&_, _||_}
+use mathlib.Core.List.{List, _∷_}
+use Prim.Native.Nat.{ℕ, zero, suc, _≤_}
+use native.Mathlib.Omega.{arith}
 use Rattle.space.specs.Space.{Spaces}
 use Rattle.space.proofs.Laws.{size-refl}
 use Rattle.unit_laws.proofs.Inter.{move}
 use Rattle.unit_laws.proofs.Fair.{serve, Picks}
 use Rattle.unit_laws.proofs.Machine.{Lawful, every-of, counts, as-if-alone}
-use Rattle.unit_laws.specs.Machine.{Every}
+use Rattle.unit_laws.specs.Local.{Mover}
+use Rattle.unit_laws.proofs.Local.{mover}
+use Rattle.unit_laws.specs.Inter.{State, Moving, first, second, back, firsts, seconds, units₁, units₂}
+use Rattle.unit_laws.specs.Fair.{LatestMover, nobody, channel1, channel2}
+use Rattle.unit_laws.specs.Machine.{iter, Every, View, turns as schedule, count₁, count₂, AllApart}
 use Rattle.port.specs.declared.Which.{Which}
 use Rattle.port.specs.declared.Which.the-variants.{One, Two}
 use Rattle.word_mode.specs.declared.RequestMode.{RequestMode}
@@ -43,9 +49,35 @@ use Rattle.step.specs.Choice.{turn, factsOf, faultsOf, choice}
 use Rattle.step.proofs.Laws.{chooses}
 use Rattle.step.specs.Step.{Outcome, workOf, unitOf, performOf, stepOf}
 use Rattle.step_bus.specs.After.{unendedControl, controlBy}
-use Rattle.promises.specs.Machine.{Machine, left, step, answer, next-choice}
+use Rattle.promises.specs.Machine.{Machine, left, step, answer, next-choice, unit}
+use Rattle.promises.specs.Own.{same, owns}
+use Rattle.promises.proofs.Stretch.{owns-unit}
 use Rattle.promises.proofs.Machine.{unit-channel, unit-spaces}
-use Rattle.promises.specs.Demand3.{Interleaving, Start, Fine, turn-of, latest, state, view, alone, Turned, Demand3}
+use Rattle.promises.specs.Demand3.{Interleaving, Start, Fine, state, unitAlone, units, KeepApart, Turned, Demand3}
+
+-- ---- how the machine is seen
+
+abbrev turn-of : Choice → Moving
+turn-of chosen.Disabled = back
+turn-of (chosen.Refused n) = back
+turn-of (chosen.Fetch w s) = back
+turn-of chosen.GiveBack = back
+turn-of (chosen.Unit One) = first
+turn-of (chosen.Unit Two) = second
+turn-of (chosen.Hold w) = back
+turn-of chosen.Release = back
+turn-of chosen.Idle = back
+
+abbrev latest : Served → LatestMover
+latest Nobody = nobody
+latest (Last One) = channel1
+latest (Last Two) = channel2
+
+abbrev view : View Machine Channel Channel
+view = record { step = step; turn = λ m. turn-of (next-choice m); served = λ m. latest (m .controller .control .served); state = state }
+
+abbrev alone : (z : Spaces) → Which → Mover z Channel
+alone z w = mover z (unit w)
 
 -- ---- whose turn it is
 
@@ -103,10 +135,11 @@ record Kept (z : Spaces) (c : Choice) (m : Machine) (n : Machine) : Type 0 where
   serves : latest (n .controller .control .served) ≡ serve (turn-of c) (latest (m .controller .control .served))
   moves : state n ≡ move (alone z One) (alone z Two) (turn-of c) (state m)
   start : Start n
+  same : (n .controller .pointer ≡ m .controller .pointer) × (n .controller .master ≡ m .controller .master)
 
 given : (z : Spaces) (m : Machine) → Start m → Kept z chosen.GiveBack m (left (by chosen.GiveBack m))
 unfolding performOf
-given z m h = record { serves = refl; moves = refl; start = record { on = h .on; chain = h .chain; bus = h .bus; one = h .one; two = h .two } }
+given z m h = record { serves = refl; moves = refl; start = record { on = h .on; chain = h .chain; bus = h .bus; one = h .one; two = h .two }; same = (refl, refl) }
 
 module _ (w : Which) (c : Channel) (x : Moved) (h : Interleaving c) (fine : some (reasonsOf x false) ≡ false) where
   -- an unended unit leaves a ready channel ready
@@ -155,6 +188,7 @@ module _ (z : Spaces) (m : Machine) (h : Start m) where
       one = ready-after One (m .controller .one) (made One) (h .one) (ap some f);
       two = h .two;
     };
+    same = (refl, refl);
   }
   unit-kept Two f = record {
     serves = ap (λ (k : Control). latest (k .served)) (settled Two (h .two) f);
@@ -170,6 +204,7 @@ module _ (z : Spaces) (m : Machine) (h : Start m) where
       one = h .one;
       two = ready-after Two (m .controller .two) (made Two) (h .two) (ap some f);
     };
+    same = (refl, refl);
   }
 
 record Does (z : Spaces) (c : Choice) (m : Machine) : Type 0 where
@@ -182,47 +217,126 @@ module _ (z : Spaces) (m : Machine) (h : Start m) where
       → Fine (by (refusedOr k (chosen.Unit (next-up s))) m .stepped .answer) → Does z (refusedOr k (chosen.Unit (next-up s))) m
   unfolding performOf unitOf
   unit-or-refused s e zero f = record {
-    kept = unit-kept z m h (next-up s) f;
+    kept = unit-kept z m h (next-up s) (f .1);
     picks = subst (λ (x : Served). Picks (turn-of (chosen.Unit (next-up s))) (latest x)) (sym e) (picks-next s);
-    kind = f;
+    kind = inr (refl, f .1);
   }
-  unit-or-refused s e (suc k) f = absurd f
+  unit-or-refused s e (suc k) f = let x = f .0 in absurd (omega arith)
 
   as-expected : (n : Bool) → Fine (by (expected n (m .controller .control .served) (boardOf (m .spaces)) (m .controller)) m .stepped .answer)
       → Does z (expected n (m .controller .control .served) (boardOf (m .spaces)) (m .controller)) m
   unfolding performOf
-  as-expected true f = record { kept = given z m h; picks = tt; kind = tt }
+  as-expected true f = record { kept = given z m h; picks = tt; kind = inl refl }
   as-expected false f = let s = m .controller .control .served in unit-or-refused s refl (firstOf (refusals (chosen.Unit (next-up s)) (faultsOf (boardOf (m .spaces)) (m .controller)))) f
 
--- a step of the stretch
+-- a step of the stretch, and what is kept from its first machine on
 record Law (z : Spaces) (m : Machine) : Type 0 where
   lawful : Lawful (alone z One) (alone z Two) view m
   kind : Turned (answer m)
 
-each : (z : Spaces) (m : Machine) → Start m → Fine (answer m) → Law z m × Start (step m)
+record Since (m n : Machine) : Type 0 where
+  start : Start n
+  pointer : n .controller .pointer ≡ m .controller .pointer
+  master : n .controller .master ≡ m .controller .master
+
+each : (z : Spaces) (m₀ m : Machine) → Since m₀ m → Fine (answer m) → Law z m × Since m₀ (step m)
 unfolding stepOf
-each z m h f = (
+each z m₀ m h f = (
   record { lawful = record { picks = d .picks; serves = d .kept .serves; moves = d .kept .moves }; kind = d .kind },
-  d .kept .start,
+  record { start = d .kept .start; pointer = d .kept .same .0 ∙ h .pointer; master = d .kept .same .1 ∙ h .master },
 )
   where
     e : next-choice m ≡ expected (m .controller .control .note) (m .controller .control .served) (boardOf (m .spaces)) (m .controller)
-    e = choice-of m h
+    e = choice-of m (h .start)
 
     d : Does z (next-choice m) m
     d = subst (λ (c : Choice). Does z c m) (sym e)
-        (as-expected z m h (m .controller .control .note) (subst (λ (c : Choice). Fine (by c m .stepped .answer)) e f))
+        (as-expected z m (h .start) (m .controller .control .note) (subst (λ (c : Choice). Fine (by c m .stepped .answer)) e f))
+
+-- ---- the laws' counts and units alone are the statement's
+
+-- whether a turn is the channel's
+abbrev mine : Which → Moving → Bool
+mine w first = same w One
+mine w second = same w Two
+mine w back = false
+
+own-mine : (w : Which) (c : Choice) → mine w (turn-of c) ≡ owns w c
+own-mine w chosen.Disabled = refl
+own-mine w (chosen.Refused n) = refl
+own-mine w (chosen.Fetch v s) = refl
+own-mine w chosen.GiveBack = refl
+own-mine w (chosen.Unit One) = refl
+own-mine w (chosen.Unit Two) = refl
+own-mine w (chosen.Hold v) = refl
+own-mine w chosen.Release = refl
+own-mine w chosen.Idle = refl
+
+-- a turn of a channel is its unit
+unit-of : (w : Which) (c : Choice) {t : Moving} → turn-of c ≡ t → mine w t ≡ true → c ≡ chosen.Unit w
+unit-of w c e h = owns-unit w c (sym (own-mine w c) ∙ ap (mine w) e ∙ h)
+
+-- the two counts of a schedule, by the channel
+abbrev of : Which → List Moving → ℕ
+of One cs = firsts cs
+of Two cs = seconds cs
+
+one-more : (w : Which) (t : Moving) (cs : List Moving) → of w (t ∷ cs) ≡ cond (mine w t) (suc (of w cs)) (of w cs)
+one-more One first cs = refl
+one-more One second cs = refl
+one-more One back cs = refl
+one-more Two first cs = refl
+one-more Two second cs = refl
+one-more Two back cs = refl
+
+counted : (w : Which) (n : ℕ) (m : Machine) → of w (schedule view n m) ≡ units w n m
+counted One zero m = refl
+counted Two zero m = refl
+counted w (suc n) m =
+    one-more w (turn-of (next-choice m)) (schedule view n (step m)) ∙ (λ i. cond (own-mine w (next-choice m) i) (suc (counted w n (step m) i)) (counted w n (step m) i))
+
+alone₁ : (z : Spaces) (n : ℕ) (x : State Channel Channel) → units₁ (alone z One) (alone z Two) n x ≡ iter (unitAlone One) n x
+alone₁ z zero x = refl
+alone₁ z (suc n) x = alone₁ z n (unitAlone One x)
+
+alone₂ : (z : Spaces) (n : ℕ) (x : State Channel Channel) → units₂ (alone z One) (alone z Two) n x ≡ iter (unitAlone Two) n x
+alone₂ z zero x = refl
+alone₂ z (suc n) x = alone₂ z n (unitAlone Two x)
+
+all-apart : (n : ℕ) (m : Machine) → KeepApart n m → AllApart (alone (m .spaces) One) (alone (m .spaces) Two) view n m
+all-apart n m h i j a b e f =
+    let k = h i j a b (unit-of One (next-choice (iter step i m)) e refl) (unit-of Two (next-choice (iter step j m)) f refl) in
+    record {
+      w1w2 = λ l x y. k .writes l (x .1) (x .0) (y .0);
+      w1r2 = λ l x y. k .read-by-two l (x .1) (x .0) (y .0);
+      r1w2 = λ l x y. k .read-by-one l (x .1) (x .0) (y .0);
+    }
+
+-- ---- the demand
 
 pub demand3 : (n : ℕ) (m : Machine) → Start m → Every step (λ x. Fine (answer x)) n m → Demand3 n m
 demand3 n m h q = record {
-  answers = every-of step Start (λ x. Fine (answer x)) (λ x. Turned (answer x)) (λ x a b. ((each z x a b) .0 .kind, (each z x a b) .1)) n m h q .0;
-  turns = counts (alone z One) (alone z Two) view n m lawful;
-  apart = λ a. as-if-alone (alone z One) (alone z Two) view n m (size-refl z) lawful a;
+  answers = every-of step (Since m) (λ x. Fine (answer x)) (λ x. Turned (answer x)) (λ x a b. ((each z m x a b) .0 .kind, (each z m x a b) .1)) n m since q .0;
+  turns = subst (λ (k : ℕ). (k ≤ suc (units Two n m)) × (units Two n m ≤ suc k)) (counted One n m)
+      (subst (λ (k : ℕ). (count₁ view n m ≤ suc k) × (k ≤ suc (count₁ view n m))) (counted Two n m) (counts (alone z One) (alone z Two) view n m lawful));
+  apart = λ a. as-if-alone (alone z One) (alone z Two) view n m (size-refl z) lawful (all-apart n m a)
+      ∙ alone₂ z (count₂ view n m) (units₁ (alone z One) (alone z Two) (count₁ view n m) (state m))
+      ∙ ap (iter (unitAlone Two) (count₂ view n m)) (alone₁ z (count₁ view n m) (state m))
+      ∙ (λ i. iter (unitAlone Two) (counted Two n m i) (iter (unitAlone One) (counted One n m i) (state m)));
+  rest = record { pointer = last .pointer; master = last .master; chain = last .start .chain; bus = last .start .bus };
 }
   where
     z : Spaces
     z = m .spaces
 
+    since : Since m m
+    since = record { start = h; pointer = refl; master = refl }
+
+    kept : Every step (Lawful (alone z One) (alone z Two) view) n m × Since m (iter step n m)
+    kept = every-of step (Since m) (λ x. Fine (answer x)) (Lawful (alone z One) (alone z Two) view) (λ x a b. ((each z m x a b) .0 .lawful, (each z m x a b) .1)) n m since q
+
     lawful : Every step (Lawful (alone z One) (alone z Two) view) n m
-    lawful =
-        every-of step Start (λ x. Fine (answer x)) (Lawful (alone z One) (alone z Two) view) (λ x a b. ((each z x a b) .0 .lawful, (each z x a b) .1)) n m h q .0
+    lawful = kept .0
+
+    last : Since m (iter step n m)
+    last = kept .1

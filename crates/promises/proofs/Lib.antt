@@ -1,3 +1,4 @@
+pub mod Refusals
 pub mod Demand1
 pub mod Demand2b
 pub mod Demand2c
@@ -13,4 +14,8 @@ pub mod WellCalls
 pub mod WellChannel
 pub mod WellEnding
 pub mod WellStep
-pub mod Witness
+pub mod InterleaveWitness
+pub mod SearchWitness
+pub mod Stretch
+pub mod Underway
+pub mod Seen

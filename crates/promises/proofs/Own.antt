@@ -16,6 +16,7 @@ use Rattle.word_mode.specs.Reasons.{some}
 use Rattle.word_address.specs.Address.{number}
 use Rattle.unit.specs.Unit.{worked}
 use Rattle.channel_request.specs.Request.{requests}
+use Rattle.channel.specs.Set.{_⟨line≔_⟩}
 use Rattle.channel.specs.Ending.{reasonsOf, afterUnit}
 use Rattle.chain.specs.Chaining.{fetchedOf}
 use Rattle.word_reload.specs.declared.Stage.{Stage}
@@ -35,9 +36,10 @@ use Rattle.step_rules.specs.Rules.{isInterleaved}
 use Rattle.step.specs.Fetching.{dropOf, fetchOf}
 use Rattle.step_bus.specs.After.{controlFetched, controlBy}
 use Rattle.step.specs.Step.{workOf, unitOf, holdOf, performOf}
-use Rattle.promises.specs.Machine.{Machine, left, next-choice, channel, unit-writes, unit-reads}
+use Rattle.promises.specs.Machine.{Machine, left, channel, unit-writes, unit-reads}
 use Rattle.promises.proofs.Machine.{unit-spaces}
-use Rattle.promises.specs.Own.{same, owns, spares, chain-of, Away}
+use Rattle.port.specs.Ports.{other}
+use Rattle.promises.specs.Own.{same, owns, spares, chain-of}
 
 abbrev pub fetches : Which → Choice → Bool
 fetches w chosen.Disabled = false
@@ -78,8 +80,9 @@ module _ (w : Which) (b : Board) (u : Controller) (calm : at w u .pending ≡ fa
   pub unfetched : fetches w (choice b u) ≡ false
   unfetched = by-reason (why b u)
 
+-- but for the line, which a step leaves alone too
 pub record LeftAlone (w : Which) (m n : Machine) : Type 0 where
-  pub alone : channel w n ≡ channel w m
+  pub alone : channel w n ≡ channel w m ⟨line≔ channel w n .line ⟩
   pub spared : spares w (chain-of n) ≡ true
 
 abbrev pub by : Choice → Machine → Machine
@@ -151,17 +154,18 @@ unit-keeps v P m h l p =
     ap (λ (z : Spaces). get z l) (sym (unit-spaces v (channel v m) (m .spaces)))
     ∙ puts-keeps (unit-writes (channel v m)) (gets (m .spaces) (unit-reads (channel v m))) (m .spaces) l (h l p)
 
-pub others-keep : (w : Which) (P : Place → Type 0) (c : Choice) (m : Machine) → next-choice m ≡ c → Away w P m → owns w c ≡ false
+pub others-keep : (w : Which) (P : Place → Type 0) (c : Choice) (m : Machine)
+    → (owns (other w) c ≡ true → (l : Place) → P l → ¬ (In l (places (unit-writes (channel (other w) m))))) → owns w c ≡ false
     → Agree P (by c m .spaces) (m .spaces)
 unfolding performOf
-others-keep w P chosen.Disabled m q u e l x = refl
-others-keep w P (chosen.Refused n) m q u e l x = refl
-others-keep w P (chosen.Fetch v s) m q u e l x = refl
-others-keep w P chosen.GiveBack m q u e l x = refl
-others-keep One P (chosen.Unit One) m q u e l x = absurd (true≢false e)
-others-keep One P (chosen.Unit Two) m q u e l x = unit-keeps Two P m (u q) l x
-others-keep Two P (chosen.Unit One) m q u e l x = unit-keeps One P m (u q) l x
-others-keep Two P (chosen.Unit Two) m q u e l x = absurd (true≢false e)
-others-keep w P (chosen.Hold v) m q u e l x = refl
-others-keep w P chosen.Release m q u e l x = refl
-others-keep w P chosen.Idle m q u e l x = refl
+others-keep w P chosen.Disabled m u e l x = refl
+others-keep w P (chosen.Refused n) m u e l x = refl
+others-keep w P (chosen.Fetch v s) m u e l x = refl
+others-keep w P chosen.GiveBack m u e l x = refl
+others-keep One P (chosen.Unit One) m u e l x = absurd (true≢false e)
+others-keep One P (chosen.Unit Two) m u e l x = unit-keeps Two P m (u refl) l x
+others-keep Two P (chosen.Unit One) m u e l x = unit-keeps One P m (u refl) l x
+others-keep Two P (chosen.Unit Two) m u e l x = absurd (true≢false e)
+others-keep w P (chosen.Hold v) m u e l x = refl
+others-keep w P chosen.Release m u e l x = refl
+others-keep w P chosen.Idle m u e l x = refl

@@ -1,5 +1,6 @@
 -- Promise D1d: every state that calls reach from a fresh controller is well formed. Assumes nothing.
 use mathlib.Core.Path.{_≡_, refl, subst}
+use mathlib.Core.List.{List, [], _∷_}
 use Rattle.port.specs.declared.Which.{Which}
 use Rattle.word_reload.specs.declared.Stage.{Stage}
 use Rattle.step_bus.specs.declared.Chain.{Chain}
@@ -14,9 +15,9 @@ use Rattle.promises.specs.WellFormed.{Tidy, Owner, Keeper, Owned, WellFo
 use Rattle.promises.proofs.WellChannel.{reset-sound}
 use Rattle.promises.proofs.WellCalls.{reset-well, pointed-well, write-well, line-well, acknowledge-well}
 use Rattle.promises.proofs.WellStep.{step-well, run-well}
-use Rattle.promises.specs.Reached.{Reached, acknowledges, fresh, line, points, reset, runs, steps, writes}
-
--- ---- every state that calls reach
+use Rattle.space.specs.Space.{Spaces}
+use Rattle.promises.specs.Calls.{Call, call}
+use Rattle.promises.specs.Reached.{afterCalls, ReachedWell}
 
 pub fresh-well : WellFormed freshOf
 unfolding freshOf resetOf
@@ -25,15 +26,26 @@ fresh-well = record { pointer-bits = refl; master-bits = refl; one = reset-sound
     zero-tidy : Tidy noChannel
     zero-tidy = record { current-tags = record { a = refl; b = refl }; base-tags = record { a = refl; b = refl }; chain-tag = refl; mode-high = refl; vector-byte = refl }
 
-pub reached-well : (u : Controller) → Reached u → WellFormed u
-reached-well v fresh = fresh-well
-reached-well v (reset u r) = reset-well u (reached-well u r)
-reached-well v (points w u r) = pointed-well u (reached-well u r) w
-reached-well v (writes w u r) = write-well u (reached-well u r) w
-reached-well v (line n active u r) = line-well u (reached-well u r) n active
-reached-well v (acknowledges u r) = acknowledge-well u (reached-well u r)
-reached-well v (steps eop u z r) = step-well u (reached-well u r) eop z
-reached-well v (runs budget u z r) = run-well budget u z (reached-well u r)
+-- each call keeps the controller well formed
+call-well : (c : Call) (u : Controller) (z : Spaces) → WellFormed u → WellFormed (call c (record { controller = u; spaces = z }) .after .controller)
+unfolding call
+call-well Call.reset u z h = reset-well u h
+call-well (Call.write-pointer w) u z h = pointed-well u h w
+call-well Call.read-pointer u z h = h
+call-well (Call.write w) u z h = write-well u h w
+call-well Call.read u z h = h
+call-well (Call.line n active) u z h = line-well u h n active
+call-well Call.acknowledge u z h = acknowledge-well u h
+call-well (Call.step eop) u z h = step-well u h eop z
+call-well (Call.run budget) u z h = run-well budget u z h
+
+calls-well : (cs : List (Call × Spaces)) (u : Controller) → WellFormed u → WellFormed (afterCalls cs u)
+unfolding afterCalls
+calls-well [] u h = h
+calls-well (c ∷ cs) u h = calls-well cs _ (call-well (c .0) u (c .1) h)
+
+pub reached-well : ReachedWell
+reached-well cs = calls-well cs freshOf fresh-well
 
 -- ---- the owner of the bus, as it is said
 

@@ -1,97 +1,100 @@
--- Demand 2, the search: it ends on the first datum that meets its condition, or at the count. In any stretch of steps, for either
--- channel, all request modes, both widths, all step codes and both spaces, with the other channel active. Assumes nothing.
--- ---- stretches
+-- Demand 2, the search: it ends on the first datum that meets its condition, or at the count. For either channel, all request modes, both
+-- widths, all step codes and both spaces; in any stretch of steps without EOP with request-line calls, pointer writes and reads and register
+-- reads between them, and with the other channel active. Assumes nothing.
 use mathlib.Core.Path.{_≡_}
 use mathlib.Core.Bool.{Bool, true, false}
 use mathlib.Core.List.{List, []}
-use Prim.Native.Nat.{ℕ, zero, suc, _-_, _%_, _≤_, _<_}
+use Prim.Native.Nat.{ℕ, suc, _-_, _<_}
 use lib.Dec.{eqb}
 use Rattle.space.specs.declared.Width.{Width}
 use Rattle.space.specs.declared.Place.{Place}
+use Rattle.space.specs.Space.{Spaces}
 use Rattle.space.specs.Bytes.{bytesAt, valueOf}
-use Rattle.unit_laws.specs.Machine.{iter}
-use Rattle.unit_laws.specs.Op.{Ends, ended, Seen, done}
-use Rattle.unit_laws.specs.Search.{meets}
+use Rattle.unit_laws.specs.Machine.{iter, Every}
+use Rattle.unit_laws.specs.Op.{Area}
+use Rattle.unit_laws.specs.Search.{First, meets}
 use Rattle.unit_comparison.specs.Comparison.{comparison}
 use Rattle.word_address.specs.declared.Address.{Address}
-use Rattle.word_address.specs.Address.{placeOf, steppedOn, sourceOf}
-use Rattle.word_operation.specs.declared.Moves.the-variants.{Search}
+use Rattle.word_address.specs.Address.{placeOf, sourceOf}
+use Rattle.word_operation.specs.declared.Moves.the-variants as moves
 use Rattle.word_operation.specs.Operation.{comparing}
-use Rattle.word_mode.specs.Mode.{operationOf, isFlipped, matchControl}
-use Rattle.unit.specs.declared.Moved.{Moved}
-use Rattle.unit.specs.Unit.{compared, worked}
-use Rattle.channel.specs.declared.Channel.{Channel}
-use Rattle.step_bus.specs.declared.Chain.{Chain}
-use Rattle.step.specs.declared.Answer.{Answer}
-use Rattle.step.specs.declared.Answer.the-variants as told
-use Rattle.step.specs.Step.{workOf}
+use Rattle.word_mode.specs.declared.Reasons.{Reasons}
+use Rattle.word_mode.specs.Mode.{isFlipped, matchControl, reloadOf}
+use Rattle.word_mode.specs.Reasons.{some, enabledFor}
+use Rattle.step.specs.Answers.{Paper, unit, none, channelNumber, paper}
 use Rattle.port.specs.declared.Which.{Which}
-use Rattle.promises.specs.Machine.{Machine, step, answer, next-choice, channel}
-use Rattle.promises.specs.Own.{owns, spares, chain-of}
+use Rattle.promises.specs.Machine.{Machine, answer, channel}
+use Rattle.promises.specs.Calls.{Moment, next}
+use Rattle.promises.specs.Own.{unit-next, Away, made, units-before, units-of, Armed}
+use Rattle.promises.specs.Paced.{stepped}
 
--- what a unit of channel w makes of its registers
-abbrev pub made : Which → Machine → Moved
-made w m = worked (workOf (channel w m)) (m .spaces) .moved
+-- a channel's search of N data (`units`) of a width, from a source address on
+pub record Search : Type 0 where
+  pub channel : Which
+  pub width : Width
+  pub start : Address
+  pub units : ℕ
+  pub pattern : ℕ
+  pub mask : ℕ
+  pub control : ℕ
 
--- ---- what an unended unit leaves of the other registers
+-- as the registers have it
+abbrev pub search-of : Which → Width → Machine → Search
+search-of w d m = record {
+  channel = w;
+  width = d;
+  start = sourceOf (isFlipped (channel w m .mode)) (channel w m .current);
+  units = units-of w m;
+  pattern = channel w m .pattern;
+  mask = channel w m .mask;
+  control = matchControl (channel w m .mode);
+}
 
-pub record Goes (c d : Channel) : Type 0 where
-  pub pattern : d .pattern ≡ c .pattern
-  pub mask : d .mask ≡ c .mask
-  pub op : operationOf (d .mode) ≡ operationOf (c .mode)
-  pub flip : isFlipped (d .mode) ≡ isFlipped (c .mode)
-  pub control : matchControl (d .mode) ≡ matchControl (c .mode)
-  pub pending : d .pending ≡ c .pending
+-- the locations of d(k), which is read at the source address stepped k times
+abbrev pub place : Search → ℕ → List Place
+place s k = bytesAt (s .width) (placeOf (stepped (s .width) k (s .start))) []
 
--- the source address stepped k times
-abbrev pub steps : Width → ℕ → Address → Address
-steps d zero a = a
-steps d (suc k) a = steppedOn d (steps d k a)
+-- a match under stop on match, a mismatch under stop on no match
+abbrev pub condition : Search → List ℕ → Bool
+condition s d = comparison (s .width) (valueOf (s .width) d) (s .pattern) (s .mask) (s .control) .met
 
--- a channel, and the chain under way
-pub record Held : Type 0 where
-  pub channel : Channel
-  pub chain : Chain
+-- d(k), as the spaces are, meets the condition
+abbrev pub hit : Search → Spaces → ℕ → Bool
+hit s = meets (place s) (condition s)
 
-abbrev pub held : Which → Machine → Held
-held w m = record { channel = channel w m; chain = chain-of m }
+-- What is taken: in x's machine the search is before the channel. `stop` is the least k whose d(k) meets the condition, as the spaces are
+-- then, or N - 1 where there is none. After i calls the next is a unit of the channel; up to and with it no unit of the other channel writes a
+-- location of a d(k), k < N.
+pub record SearchStretch (s : Search) (stop i : ℕ) (x : Moment) : Type 0 where
+  pub ready : Armed (s .channel) (comparing (moves.Search (s .width))) (x .machine)
+  pub registers : search-of (s .channel) (s .width) (x .machine) ≡ s
+  pub first : First (hit s (x .machine .spaces)) (s .units) stop
+  pub mine : unit-next (s .channel) (iter next i x) ≡ true
+  pub untouched : Every next (Away (s .channel) (Area (s .units) (place s))) (suc i) x
 
-abbrev pub ends-of : Moved → Ends
-ends-of x = record { mc = x .compared .met; tc = x .tc }
+-- what a step answers that does a unit of the channel, with these end reasons
+abbrev pub unit-ended : Search → Reasons → Paper
+unit-ended s why = record { number = 0; name = unit; channel = channelNumber (s .channel); why = why }
 
--- the answer of channel w's unit that ends so
-abbrev pub answered : Which → Ends → Answer
-answered w e = told.Unit w (record { why = record { tc = e .tc; mc = e .mc; eop = false } })
+-- of unit k: MC if and only if d(k) meets the condition, TC if and only if k is N - 1, no EOP
+abbrev pub reasons-of : Search → Spaces → ℕ → Reasons
+reasons-of s z k = record { tc = eqb (suc k) (s .units); mc = hit s z k; eop = false }
 
-abbrev pub seen : Which → Seen Machine Held
-seen w = record { step = step; mine = λ m. owns w (next-choice m); ends = λ m. ends-of (made w m); reg = held w; spaces = λ m. m .spaces }
+-- What is promised of the unit at call i, from the machine m before it to m′ after it, by its number among the channel's units.
+pub record UnitSearched (s : Search) (stop number : ℕ) (z : Spaces) (m m′ : Machine) : Type 0 where
+  -- before `stop` it has no end reasons
+  pub going : number < stop → paper (answer m) ≡ unit-ended s none
+  -- at `stop` it has exactly its reasons, and there are some
+  pub reasons : number ≡ stop → paper (answer m) ≡ unit-ended s (reasons-of s z stop)
+  pub stops : number ≡ stop → some (paper (answer m) .why) ≡ true
+  -- it counts to N - 1 - stop, and that is left in the register where no reload is enabled for a reason
+  pub count : number ≡ stop → made (s .channel) m .set .count ≡ s .units - 1 - stop
+  pub left : number ≡ stop → enabledFor (reloadOf (channel (s .channel) m .mode)) (reasons-of s z stop) ≡ false
+      → channel (s .channel) m′ .current .count ≡ s .units - 1 - stop
 
-module _ (w : Which) (d : Width) (a : Address) (n pattern mask control : ℕ) (fits : n ≤ 65536) where
-  -- d(k) is read at the source address stepped k times
-  abbrev pub place : ℕ → List Place
-  place k = bytesAt d (placeOf (steps d k a)) []
+abbrev pub Searched : Search → ℕ → ℕ → Moment → Type 0
+Searched s stop i x =
+    UnitSearched s stop (units-before (s .channel) i x) (x .machine .spaces) (iter next i x .machine) (next (iter next i x) .machine)
 
-  -- it meets the condition
-  abbrev pub condition : List ℕ → Bool
-  condition x = comparison d (valueOf d x) pattern mask control .met
-
-  -- a search of n data from a, k of them done; no chain of the channel is pending or under way
-  pub record SearchAt (k : ℕ) (r : Held) : Type 0 where
-    pub op : operationOf (r .channel .mode) ≡ comparing (Search d)
-    pub source : sourceOf (isFlipped (r .channel .mode)) (r .channel .current) ≡ steps d k a
-    pub count : r .channel .current .count ≡ (n - k) % 65536
-    pub pattern-is : r .channel .pattern ≡ pattern
-    pub mask-is : r .channel .mask ≡ mask
-    pub control-is : matchControl (r .channel .mode) ≡ control
-    pub pending : r .channel .pending ≡ false
-    pub spared : spares w (r .chain) ≡ true
-
-  -- Number `done` of the channel's units, at step i, as the step answers it. While it is no more than `stop`: before `stop` it has no end
-  -- reasons, and at `stop` it has exactly MC if and only if its datum meets the condition, and TC if and only if it is the last of n; the unit then
-  -- leaves the count at n - 1 - stop
-  pub record Searched (stop i : ℕ) (m : Machine) : Type 0 where
-    pub going : done (seen w) i m < stop → answer (iter step i m) ≡ answered w (record { mc = false; tc = false })
-    pub reasons : done (seen w) i m ≡ stop
-        → answer (iter step i m) ≡ answered w (record { mc = meets place condition (m .spaces) stop; tc = eqb (suc stop) n })
-    pub stops : done (seen w) i m ≡ stop → ended (ends-of (made w (iter step i m))) ≡ true
-    pub count : done (seen w) i m ≡ stop → made w (iter step i m) .set .count ≡ (n - suc stop) % 65536
+abbrev pub Demand2b : Type 0
+Demand2b = (s : Search) (stop i : ℕ) (x : Moment) → SearchStretch s stop i x → Searched s stop i x

@@ -1,52 +1,88 @@
--- Demand 2, the funnel: words funnelled to bytes and back arrive unchanged. Either channel does either half, in any stretch of steps
--- in which the other channel writes none of the areas; both orders of the halves, memory or I/O on each side, up and down.
--- Assumes nothing.
+-- Demand 2, the funnel: words funnelled to bytes and back arrive unchanged. Either channel does either half, in any stretch of steps without
+-- EOP with request-line calls, pointer writes and reads and register reads between them, in which the other channel writes none of the areas;
+-- both orders of the halves, memory or I/O on each side, up and down. Assumes nothing.
 use mathlib.Core.Path.{_≡_}
+use mathlib.Core.Logic.{_⊎_}
 use mathlib.Core.Bool.{Bool, true, false}
-use mathlib.Core.List.{List}
-use Prim.Native.Nat.{ℕ, zero, suc, _-_, _*_, _%_, _≤_}
+use Prim.Native.Nat.{ℕ, suc, _*_, _<_}
 use Rattle.space.specs.declared.Width.the-variants.{Byte, Word}
 use Rattle.space.specs.declared.Place.{Place}
-use Rattle.unit_laws.specs.Local.{Write}
+use Rattle.space.specs.Space.{Spaces, get, SameSize, Bytes}
 use Rattle.unit_laws.specs.Machine.{iter, Every}
-use Rattle.unit_laws.specs.Op.{done}
-use Rattle.unit_laws.specs.Block.{Both}
-use Rattle.unit_laws.specs.Area.{word-reads, byte-reads, byte-writes, word-writes}
+use Rattle.unit_laws.specs.Op.{Area}
+use Rattle.unit_laws.specs.Area.{byte, high, low, AreasInside, word-reads, byte-reads}
 use Rattle.unit_funnel.specs.Funnel.{highFirst}
 use Rattle.word_address.specs.declared.Address.{Address}
-use Rattle.word_operation.specs.declared.Moves.the-variants.{Funnel}
+use Rattle.word_address.specs.Address.{SixteenBits}
+use Rattle.word_operation.specs.declared.Moves.the-variants as moves
 use Rattle.word_operation.specs.Operation.{moving}
-use Rattle.word_mode.specs.Mode.{operationOf, isFlipped}
+use Rattle.word_mode.specs.Mode.{isFlipped}
 use Rattle.port.specs.declared.Which.{Which}
-use Rattle.promises.specs.Machine.{Machine, step, next-choice, channel}
-use Rattle.promises.specs.Own.{owns, spares, Away}
-use Rattle.promises.specs.Demand2b.{Held, held, seen, steps}
+use Rattle.promises.specs.Machine.{Machine, channel}
+use Rattle.promises.specs.Calls.{Moment, next}
+use Rattle.promises.specs.Own.{unit-next, Away, units-before, units-of, Armed}
 use Rattle.promises.specs.Paced.{line}
 
-module _ (w : Which) (flip : Bool) (bytes-at words-at : Address) (n : ℕ) (fits : n ≤ 65536) where
-  -- k of them are done; no chain of the channel is pending or under way
-  pub record FunnelAt (k : ℕ) (r : Held) : Type 0 where
-    pub op-is : operationOf (r .channel .mode) ≡ moving Funnel
-    pub flipped : isFlipped (r .channel .mode) ≡ flip
-    pub a-is : r .channel .current .a ≡ steps Byte (k * 2) bytes-at
-    pub b-is : r .channel .current .b ≡ steps Word k words-at
-    pub count : r .channel .current .count ≡ (n - k) % 65536
-    pub pending : r .channel .pending ≡ false
-    pub spared : spares w (r .chain) ≡ true
+-- a channel's funnelled transfer of N words (`units`): to the bytes by flip 1, from the bytes by flip 0
+pub record Funnel : Type 0 where
+  pub channel : Which
+  pub flip : Bool
+  pub words : Address
+  pub bytes : Address
+  pub units : ℕ
 
--- ---- the demand
+-- as the registers have it: A is the byte side and B the word side
+abbrev pub funnel-of : Which → Machine → Funnel
+funnel-of w m = record { channel = w; flip = isFlipped (channel w m .mode); words = channel w m .current .b; bytes = channel w m .current .a; units = units-of w m }
 
--- a funnelled transfer of n units from m, whose last unit is step i; the other channel writes neither area
-pub record Funnelled (w : Which) (flip : Bool) (bytes-at words-at : Address) (n : ℕ) (src : ℕ → List Place) (dst : ℕ → List Write) (m : Machine) (i : ℕ) : Type 0 where
-  pub fits : n ≤ 65536
-  pub at : FunnelAt w flip bytes-at words-at n fits zero (held w m)
-  pub undisturbed : Every step (Away w (Both n src dst)) (suc i) m
-  pub mine : owns w (next-choice (iter step i m)) ≡ true
-  pub last : suc (done (seen w) i m) ≡ n
+-- a location of the words or of the bytes
+abbrev pub InAreas : Funnel → Place → Type 0
+InAreas f l = Area (f .units) (word-reads (line Word (f .words))) l ⊎ Area (f .units) (byte-reads (line Byte (f .bytes))) l
 
--- n words at a to the bytes at b, by flip 1; and the bytes at b to n words at h, by flip 0
-abbrev pub Splits : Which → Address → Address → ℕ → Machine → ℕ → Type 0
-Splits w a b n = Funnelled w true b a n (word-reads (line Word a)) (byte-writes (highFirst (a .upper)) (line Byte b))
+-- In x's machine the transfer is before the channel, and after i calls the next is its last unit; up to and with it the other channel writes
+-- neither area.
+pub record Funnelled (f : Funnel) (i : ℕ) (x : Moment) : Type 0 where
+  pub ready : Armed (f .channel) (moving moves.Funnel) (x .machine)
+  pub registers : funnel-of (f .channel) (x .machine) ≡ f
+  pub mine : unit-next (f .channel) (iter next i x) ≡ true
+  pub last : suc (units-before (f .channel) i x) ≡ f .units
+  pub untouched : Every next (Away (f .channel) (InAreas f)) (suc i) x
 
-abbrev pub Merges : Which → Address → Address → ℕ → Machine → ℕ → Type 0
-Merges w b h n = Funnelled w false b h n (byte-reads (line Byte b)) (word-writes (highFirst (h .upper)) (line Word h))
+-- the starts of N words, of 2 N bytes and of a second N words
+pub record Areas : Type 0 where
+  pub units : ℕ
+  pub words : Address
+  pub bytes : Address
+  pub home : Address
+
+-- one of the two transfers: its channel, the machine and calls that it is done by, and the number of the call that is its last unit
+pub record Half : Type 0 where
+  pub channel : Which
+  pub by : Moment
+  pub last : ℕ
+
+abbrev pub before : Half → Spaces
+before h = h .by .machine .spaces
+
+abbrev pub after : Half → Spaces
+after h = next (iter next (h .last) (h .by)) .machine .spaces
+
+-- What is taken: the starts are register words; the areas are apart and inside, and none holds; the halves of a word go in one order there and
+-- back; the spaces hold bytes. The first area is funnelled to the bytes; from a machine whose byte area holds those, the bytes to the second.
+pub record ThereAndBack (a : Areas) (there back : Half) : Type 0 where
+  pub registers : SixteenBits (a .words) × SixteenBits (a .bytes) × SixteenBits (a .home)
+  pub apart : AreasInside (a .units) (line Word (a .words)) (line Byte (a .bytes)) (line Word (a .home)) (before there)
+  pub order : highFirst (a .home .upper) ≡ highFirst (a .words .upper)
+  pub octets : Bytes (before there)
+  pub goes : Funnelled (record { channel = there .channel; flip = true; words = a .words; bytes = a .bytes; units = a .units }) (there .last) (there .by)
+  pub sizes : SameSize (before there) (before back)
+  pub held : (j : ℕ) → j < a .units * 2 → get (before back) (byte (line Byte (a .bytes)) j) ≡ get (after there) (byte (line Byte (a .bytes)) j)
+  pub comes : Funnelled (record { channel = back .channel; flip = false; words = a .home; bytes = a .bytes; units = a .units }) (back .last) (back .by)
+
+-- word k of the second area is word k of the first as it was at the start
+pub record WordBack (a : Areas) (there back : Half) (k : ℕ) : Type 0 where
+  pub high-half : get (after back) (high (line Word (a .home)) k) ≡ get (before there) (high (line Word (a .words)) k)
+  pub low-half : get (after back) (low (line Word (a .home)) k) ≡ get (before there) (low (line Word (a .words)) k)
+
+abbrev pub Demand2c : Type 0
+Demand2c = (a : Areas) (there back : Half) → ThereAndBack a there back → (k : ℕ) → k < a .units → WordBack a there back k

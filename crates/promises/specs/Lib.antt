@@ -1,5 +1,6 @@
-pub mod Points
 pub mod Machine
+pub mod Calls
+pub mod Points
 pub mod Demand1
 pub mod Running
 pub mod Own

@@ -2,7 +2,7 @@
 -- step keeps the steps before it. Assumes nothing.
 use mathlib.Core.Path.{_≡_}
 use mathlib.Core.Bool.{true, false}
-use mathlib.Core.Logic.{_⊎_, _≢_, _↔_}
+use mathlib.Core.Logic.{_⊎_}
 use Prim.Native.Nat.{ℕ, _+_, _<_}
 use lib.Dec.{ltb}
 use Rattle.space.specs.Space.{Spaces}
@@ -39,15 +39,8 @@ pub record Stopped (n k : ℕ) (m : Machine) (r : RunOutcome) : Type 0 where
 
 -- ---- the run
 
-abbrev pub run-number : ℕ → Controller → Spaces → ℕ
-run-number budget u z = paper (runOf budget u z .last .stepped .answer) .number
-
 pub record Run (budget : ℕ) (u : Controller) (z : Spaces) : Type 0 where
   -- 11, and nothing is done: run of more than 65,536
   pub refused : ltb 65536 budget ≡ true → runOf budget u z ≡ record { last = outcome (says u (Refused 11)) z; steps = 0 }
   -- else its steps are the stretch's, and it answers how many came before the one that stops it, or else the whole budget
   pub carried : ltb 65536 budget ≡ false → Whole budget 0 (machine u z) (runOf budget u z) ⊎ Stopped budget 0 (machine u z) (runOf budget u z)
-  -- only 11 refuses the run itself
-  pub only-11 : run-number budget u z ≡ 11 ↔ ltb 65536 budget ≡ true
-  -- a run that a refused step stops keeps exactly the steps before it
-  pub keeps : ltb 65536 budget ≡ false → run-number budget u z ≢ 0 → left (runOf budget u z .last) ≡ iter step (runOf budget u z .steps) (machine u z)

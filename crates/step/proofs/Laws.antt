@@ -10,6 +10,10 @@ use Rattle.step_bus.specs.declared.Served.{Served}
 use Rattle.step_bus.specs.declared.Served.the-variants.{Nobody, Last}
 use Rattle.space_board.specs.declared.Board.{Board}
 use Rattle.step_rules.specs.declared.Choice.{Choice}
+use Rattle.step_rules.specs.declared.Choice.the-variants.{Disabled, Refused, GiveBack, Release, Idle}
+use Rattle.step.specs.Step.{performOf}
+use Rattle.space.specs.Space.{Spaces}
+use Prim.Native.Nat.{ℕ}
 use Rattle.step_rules.specs.declared.Turn.{Turn}
 use Rattle.step_rules.specs.declared.Turn.the-variants.{Nobodys, Whose}
 use Rattle.step_rules.specs.Rules.{turnBy}
@@ -78,3 +82,14 @@ unfolding turn
 is-candidate w u t =
     subst (λ (x : Turn). TurnFacts x u) (t .turn)
     (turn-named (isCandidate (u .one)) (isCandidate (u .two)) (interleaves (u .one) && interleaves (u .two)) (u .control .served) u refl refl)
+
+-- ---- EOP is ignored but by a unit, a fetch and while holding
+
+pub EOP-ignored : (n : ℕ) (u : Controller) (z : Spaces)
+    → (performOf Disabled true u z ≡ performOf Disabled false u z)
+    × (performOf (Refused n) true u z ≡ performOf (Refused n) false u z)
+    × (performOf GiveBack true u z ≡ performOf GiveBack false u z)
+    × (performOf Release true u z ≡ performOf Release false u z)
+    × (performOf Idle true u z ≡ performOf Idle false u z)
+unfolding performOf
+EOP-ignored n u z = (refl, refl, refl, refl, refl)

@@ -18,7 +18,7 @@ impl Channel {
     pub const BOTH: [Channel; 2] = [Channel::One, Channel::Two];
 
     /// The channel of this number, 1 or 2.
-    pub const fn from_number(number: u8) -> Option<Channel> {
+    pub const fn from_number(number: u32) -> Option<Channel> {
         match number {
             1 => Some(Channel::One),
             2 => Some(Channel::Two),
@@ -35,9 +35,9 @@ impl Channel {
     }
 }
 
-impl From<Channel> for u8 {
-    fn from(channel: Channel) -> u8 {
-        channel.number()
+impl From<Channel> for u32 {
+    fn from(channel: Channel) -> u32 {
+        channel.number().into()
     }
 }
 

@@ -7,7 +7,7 @@ extern "C" {
     pub fn einflyga_read_pointer(state: *const u16) -> u16;
     pub fn einflyga_write(state: *mut u16, value: u16) -> u32;
     pub fn einflyga_read(state: *const u16) -> u32;
-    pub fn einflyga_line(state: *mut u16, channel: u8, active: bool) -> u32;
+    pub fn einflyga_line(state: *mut u16, channel: u32, active: bool) -> u32;
     pub fn einflyga_acknowledge(state: *mut u16) -> u32;
     pub fn einflyga_step(
         state: *mut u16,

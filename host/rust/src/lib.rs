@@ -101,7 +101,7 @@ impl Controller {
     }
 
     /// Puts a channel's request line at a level; the number is a [`Channel`] or a plain number.
-    pub fn line(&mut self, channel: impl Into<u8>, active: bool) -> Result<(), Refusal> {
+    pub fn line(&mut self, channel: impl Into<u32>, active: bool) -> Result<(), Refusal> {
         let state = self.words.as_mut_ptr();
         carried(unsafe { ffi::einflyga_line(state, channel.into(), active) }).map(|_| ())
     }
@@ -164,7 +164,7 @@ fn upper_half(answer: u32) -> u16 {
 }
 
 fn channel(number: u32) -> Channel {
-    Channel::from_number(number as u8).expect("the library answers channel 1 or 2")
+    Channel::from_number(number).expect("the library answers channel 1 or 2")
 }
 
 /// A step's answer, taken out of its bits.

@@ -803,7 +803,7 @@ impl Plain {
     }
 
     /// Puts a channel's request line at a level.
-    pub fn line(&mut self, channel: impl Into<u8>, active: bool) -> Result<(), Refusal> {
+    pub fn line(&mut self, channel: impl Into<u32>, active: bool) -> Result<(), Refusal> {
         let who = Channel::from_number(channel.into()).ok_or(Refusal::NoChannel)?;
         let channel = &mut self.channels[who as usize];
         channel.change |= active && !channel.line;
@@ -1042,7 +1042,7 @@ impl Plain {
 
     /// A controller in the state of these words, which calls have reached.
     pub fn from_words(words: &[u16; WORDS]) -> Self {
-        let channel = |at: usize| Channel::from_number(words[at] as u8);
+        let channel = |at: usize| Channel::from_number(words[at].into());
         let table = (words[3] == 1).then_some(Table {
             left: words[4],
             second: words[5] != 0,

@@ -142,7 +142,7 @@ fn call(rng: &mut Rng, state: *mut u16, memory: (*mut u8, usize), io: (*mut u8, 
                 check_refusal(answer, READ) && answer & 0xFF00 == 0
             }
             7 => {
-                let channel = rng.pick(&[0, 1, 2, 3, 255]);
+                let channel = rng.pick(&[0, 1, 2, 3, 257, u32::MAX]);
                 let answer = ffi::einflyga_line(state, channel, rng.flag());
                 check_refusal(answer, LINE) && answer >> 8 == 0
             }

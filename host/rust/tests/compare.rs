@@ -28,7 +28,7 @@ enum Call {
     ReadPointer,
     Write(u16),
     Read,
-    Line(u8, bool),
+    Line(u32, bool),
     Acknowledge,
     Step(bool),
     Run(u32),
@@ -388,7 +388,7 @@ impl<'a> Case<'a> {
             Answer::Step(Ok(Step::Disabled)) => self.write_master_mode(),
             Answer::Step(Ok(Step::Idle)) => self.ask_for_a_unit(),
             Answer::Step(Ok(Step::Unit(who, _))) if self.rng.one_in(4) => {
-                self.call(Call::Line(who.number(), false));
+                self.call(Call::Line(who.into(), false));
             }
             Answer::Step(Ok(Step::Fetched(_))) => self.small_run(),
             // Such a refusal stays until Reset.
@@ -403,7 +403,7 @@ impl<'a> Case<'a> {
         if self.state.nac(who) {
             self.start_some_chain();
         } else if self.rng.flag() {
-            self.call(Call::Line(who.number(), true));
+            self.call(Call::Line(who.into(), true));
         } else {
             self.write(port::COMMAND.of(who), 0x41 + u16::from(who.number()));
         }
@@ -423,8 +423,8 @@ impl<'a> Case<'a> {
     }
 
     fn toggle_line(&mut self) {
-        let random = self.rng.byte();
-        let channel = self.rng.pick(&[1, 1, 1, 1, 2, 2, 2, 2, 0, 3, random]);
+        let random = self.rng.next() as u32;
+        let channel = self.rng.pick(&[1, 1, 1, 1, 2, 2, 2, 2, 0, 3, 257, random]);
         let active = self.rng.below(5) < 3;
         self.call(Call::Line(channel, active));
     }

@@ -199,6 +199,15 @@ fn runs_at_their_bounds<C: Chip>() {
     assert_eq!(chip.words(), before);
 }
 
+fn lines_of_no_channel<C: Chip>() {
+    let mut chip = C::new();
+    let before = chip.words();
+    for channel in [0, 3, 255, 257, 258, u32::MAX] {
+        assert_eq!(chip.line(channel, true), Err(Refusal::NoChannel));
+    }
+    assert_eq!(chip.words(), before);
+}
+
 macro_rules! on_both_sides {
     ($($point:ident)*) => {
         mod plain {
@@ -221,4 +230,5 @@ on_both_sides! {
     refused_commands
     pointer
     runs_at_their_bounds
+    lines_of_no_channel
 }

@@ -15,7 +15,7 @@ pub trait Chip: Sized {
     fn read_pointer(&self) -> u16;
     fn write(&mut self, value: u16) -> Result<(), Refusal>;
     fn read(&self) -> Result<u16, Refusal>;
-    fn line(&mut self, channel: u8, active: bool) -> Result<(), Refusal>;
+    fn line(&mut self, channel: u32, active: bool) -> Result<(), Refusal>;
     fn acknowledge(&mut self) -> Result<Interrupt, Refusal>;
     fn step(&mut self, eop: bool, memory: &mut [u8], io: &mut [u8]) -> Result<Step, Refusal>;
     fn run(&mut self, budget: u32, memory: &mut [u8], io: &mut [u8]) -> Result<Run, Refusal>;
@@ -48,7 +48,7 @@ macro_rules! same_calls {
             <$side>::read(self)
         }
 
-        fn line(&mut self, channel: u8, active: bool) -> Result<(), Refusal> {
+        fn line(&mut self, channel: u32, active: bool) -> Result<(), Refusal> {
             <$side>::line(self, channel, active)
         }
 

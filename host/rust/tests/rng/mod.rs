@@ -27,10 +27,6 @@ impl Rng {
         self.next() as u16
     }
 
-    pub fn byte(&mut self) -> u8 {
-        self.next() as u8
-    }
-
     pub fn flag(&mut self) -> bool {
         self.next() & 1 != 0
     }
