@@ -18,7 +18,7 @@ last-terminal n k h b = go (ℕ-discrete (suc k) n)
     go (yes e) = eq-eqb (fewer ((n - k) % 65536)) 0 (omega arith) ∙ sym (eq-eqb (suc k) n e)
     go (no d) = ne-eqb (fewer ((n - k) % 65536)) 0 (λ z. d (omega arith)) ∙ sym (ne-eqb (suc k) n d)
 
--- for request E7: there are some, and 0000 stands for 65,536
+-- there are some, and 0000 stands for 65,536
 pub units-some : (count : ℕ) → count < 65536 → (0 < units count) × (units count ≤ 65536)
 units-some zero h = omega arith
 units-some (suc count) h = rw eqb·suc-zero (omega arith)

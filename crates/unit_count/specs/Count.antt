@@ -7,7 +7,7 @@ use lib.Dec.{eqb}
 abbrev pub fewer : ℕ → ℕ
 fewer count = (count + 65535) % 65536
 
--- .. 0000 loaded means 65,536 units (for request E7) ..
+-- .. 0000 loaded means 65,536 units ..
 abbrev pub units : ℕ → ℕ
 units count = cond (eqb count 0) 65536 count
 
