@@ -1,4 +1,4 @@
-//! The four loads: a state, and the spaces that go with it.
+//! The loads: a state, and the spaces that go with it.
 
 use einflyga::plain::Plain;
 use einflyga::{port, Channel, WORDS};
@@ -28,7 +28,7 @@ pub struct Load {
     pub io: Vec<u8>,
 }
 
-/// The loads, in the order of the table.
+/// The loads that do steps, in the order of the table.
 pub const NAMES: [&str; 4] = ["transfer", "interleaved", "search", "chain"];
 
 /// The load of this name.
@@ -43,6 +43,7 @@ pub fn named(name: &str) -> Option<Load> {
         ]),
         "search" => requested(&[operation([0; 2], [STOP_ON_MATCH, WORD_SEARCH | hold])]),
         "chain" => chaining(),
+        "idle" => idle(),
         _ => return None,
     })
 }
@@ -90,6 +91,21 @@ fn chaining() -> Load {
         TABLES[0],
     ]);
     let (plain, memory) = about_to_chain(&[table]);
+    Load {
+        words: plain.words(),
+        memory,
+        io: Vec::new(),
+    }
+}
+
+/// A controller at channel 1's command port that has nothing to do, and in which Start Chain is carried out.
+pub fn idle() -> Load {
+    let (mut plain, memory) = about_to_chain(&[]);
+    for who in Channel::BOTH {
+        plain.write_pointer(port::CHAIN_LOWER.of(who));
+        plain.write(0).expect("a write that clears CA");
+    }
+    plain.write_pointer(port::COMMAND.of(Channel::One));
     Load {
         words: plain.words(),
         memory,

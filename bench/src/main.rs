@@ -1,8 +1,9 @@
 //! Speed of the proved library against the plain model.
 //!
-//! Without arguments: a table of nanoseconds a step, the best of several rounds.
+//! Without arguments: a table of nanoseconds a step and a command write, the best of several rounds.
 //! With `check`: only compares what both sides end in.
-//! With LOAD SIDE FORM STEPS (`transfer proved run 1000`): only does the steps, to have its instructions counted.
+//! With LOAD SIDE FORM STEPS (`transfer proved run 1000`): only does the steps, to have its instructions counted; the form `commands`
+//! writes the 256 command bytes in turn, each in the state that the load starts from.
 
 mod loads;
 
@@ -16,6 +17,7 @@ use std::time::Instant;
 const ROUNDS: u32 = 9;
 const RUN_STEPS: u32 = 16 * LONGEST_RUN;
 const SINGLE_STEPS: u32 = 4 * LONGEST_RUN;
+const COMMANDS: u32 = 4 * LONGEST_RUN;
 
 #[derive(Clone, Copy)]
 enum Side {
@@ -27,6 +29,7 @@ enum Side {
 enum Form {
     Run,
     Single,
+    Commands,
 }
 
 /// Does so many steps of a load from its start; answers the nanoseconds a step and what it ends in.
@@ -42,6 +45,13 @@ fn perform(load: &Load, side: Side, form: Form, steps: u32) -> (f64, Load) {
                         let _ = plain.step(false, &mut load.memory, &mut load.io);
                     }
                 }
+                Form::Commands => {
+                    let start = plain.clone();
+                    for command in commands(steps) {
+                        plain = start.clone();
+                        let _ = plain.write(command);
+                    }
+                }
             });
             load.words = plain.words();
             elapsed
@@ -53,9 +63,21 @@ fn perform(load: &Load, side: Side, form: Form, steps: u32) -> (f64, Load) {
                     step_proved(&mut load);
                 }
             }
+            Form::Commands => {
+                let start = load.words;
+                for command in commands(steps) {
+                    load.words = start;
+                    unsafe { ffi::einflyga_write(load.words.as_mut_ptr(), command) };
+                }
+            }
         }),
     };
     (nanoseconds / f64::from(steps), load)
+}
+
+/// The command bytes in turn.
+fn commands(writes: u32) -> impl Iterator<Item = u16> {
+    (0..writes).map(|at| (at % 256) as u16)
 }
 
 fn time(work: impl FnOnce()) -> f64 {
@@ -155,6 +177,11 @@ fn print_table() {
             proved_single / plain_single,
         );
     }
+    let [plain, proved] = best("commands", &loads::idle(), Form::Commands, COMMANDS);
+    println!(
+        "a command write: plain {plain:.2}, proved {proved:.2}, ratio {:.2}",
+        proved / plain
+    );
 }
 
 /// Does the steps that the arguments name, if they name any.
@@ -169,6 +196,7 @@ fn perform_arguments(arguments: &[String]) -> Option<()> {
     let form = match form.as_str() {
         "run" => Form::Run,
         "single" => Form::Single,
+        "commands" => Form::Commands,
         _ => return None,
     };
     perform(&load, side, form, steps.parse().ok()?);
@@ -182,7 +210,7 @@ fn main() {
     } else if arguments == ["check"] {
         check();
     } else if perform_arguments(&arguments).is_none() {
-        eprintln!("arguments: none, check, or LOAD plain|proved run|single STEPS");
+        eprintln!("arguments: none, check, or LOAD plain|proved run|single|commands STEPS");
         exit(2);
     }
 }

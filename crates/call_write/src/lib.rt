@@ -40,13 +40,25 @@ fn register_written(r: Register, w: u16, c: Channel) -> Channel
     }
 }
 
-fn write_register(k: Which, r: Register, w: u16, u: Controller) -> Written
+// An arm for each channel, its record copied first: so the compiler moves whole records, and chooses no field's place anew.
+fn write_register(k: Which, r: Register, w: u16, mut u: Controller) -> Written
     ensures { λ x. ⌜ x ≡ writeBy (Of k r) w u ⌝ }
 {
     if call_command::is_busy(u) {
         return call_command::refuse(2, u);
     }
-    call_command::take(u.with_channel(k, register_written(r, w, u.channel(k))))
+    match k {
+        Which::One => {
+            let c = u.one;
+            u.one = register_written(r, w, c);
+            call_command::take(u)
+        }
+        Which::Two => {
+            let c = u.two;
+            u.two = register_written(r, w, c);
+            call_command::take(u)
+        }
+    }
 }
 
 fn write_master(w: u16, mut u: Controller) -> Written

@@ -5,3 +5,4 @@ pub mod Lists
 pub mod Look
 pub mod Masks
 pub mod Rows
+pub mod Table

@@ -1,6 +1,11 @@
-// A command byte, decoded: bits 7-5 give the kind, bit 0 the channel.
+// A command byte, decoded from a listing: one entry of the table by the byte, one arm of the match by the entry.
 ghost use mathlib.Core.Path.{_≡_};
-ghost use Rattle.word_command.specs.Command.{commandOf, channelOf};
+ghost use Rattle.word_command.specs.Command.{commandOf};
+ghost use Rattle.word_command.specs.Figure18.{commandAt};
+
+mod figure_18;
+
+use figure_18::FIGURE_18;
 use port::Which;
 
 pub enum Command {
@@ -18,35 +23,67 @@ pub enum Command {
     Unknown,
 }
 
-fn channel_of(byte: u16) -> Which
-    ensures { λ r. ⌜ r ≡ channelOf byte ⌝ }
+const SET: bool = true;
+
+const CLEAR: bool = false;
+
+// The table's entry for the lower byte of a word; its upper byte is disregarded.
+fn entry(word: u16) -> u8
+    ensures { λ r. ⌜ commandAt r ≡ commandOf word ⌝ }
 {
-    if byte & 1 == 1 {
-        Which::Two
-    } else {
-        Which::One
+    let byte = (word % 256) as usize;
+    FIGURE_18[byte]
+}
+
+// Set or Clear CIE, or, IP: E names CIE, P names IP.
+fn interrupts(channel: Which, set: bool, e: bool, p: bool) -> Command
+    ensures { λ r. ⌜ r ≡ Command.Interrupts channel set e p ⌝ }
+{
+    Command::Interrupts {
+        channel,
+        set,
+        cie: e,
+        ip: p,
     }
 }
 
-// The command in the lower byte of a word; its upper byte is disregarded.
+// The codes stand in Figure 18's order.
 pub fn decode(word: u16) -> Command
     ensures { λ r. ⌜ r ≡ commandOf word ⌝ }
 {
-    let channel = channel_of(word);
-    let set = (word >> 1) & 1 == 1;
-    let kind = (word >> 5) & 7;
-    match kind {
-        0 => Command::Reset,
-        1 => Command::Interrupts {
-            channel,
-            set,
-            cie: (word >> 4) & 1 == 1,
-            ip: (word >> 2) & 1 == 1,
-        },
-        2 => Command::SoftwareRequest(channel, set),
-        3 => Command::Flip(channel, set),
-        4 => Command::HardwareMask(channel, set),
-        5 => Command::StartChain(channel),
+    let code = entry(word);
+    match code {
+        0x00 => Command::Reset,
+        0xA0 => Command::StartChain(Which::One),
+        0xA1 => Command::StartChain(Which::Two),
+        0x42 => Command::SoftwareRequest(Which::One, SET),
+        0x43 => Command::SoftwareRequest(Which::Two, SET),
+        0x40 => Command::SoftwareRequest(Which::One, CLEAR),
+        0x41 => Command::SoftwareRequest(Which::Two, CLEAR),
+        0x82 => Command::HardwareMask(Which::One, SET),
+        0x83 => Command::HardwareMask(Which::Two, SET),
+        0x80 => Command::HardwareMask(Which::One, CLEAR),
+        0x81 => Command::HardwareMask(Which::Two, CLEAR),
+        0x22 => interrupts(Which::One, SET, false, false),
+        0x23 => interrupts(Which::Two, SET, false, false),
+        0x20 => interrupts(Which::One, CLEAR, false, false),
+        0x21 => interrupts(Which::Two, CLEAR, false, false),
+        0x26 => interrupts(Which::One, SET, false, true),
+        0x27 => interrupts(Which::Two, SET, false, true),
+        0x24 => interrupts(Which::One, CLEAR, false, true),
+        0x25 => interrupts(Which::Two, CLEAR, false, true),
+        0x32 => interrupts(Which::One, SET, true, false),
+        0x33 => interrupts(Which::Two, SET, true, false),
+        0x30 => interrupts(Which::One, CLEAR, true, false),
+        0x31 => interrupts(Which::Two, CLEAR, true, false),
+        0x36 => interrupts(Which::One, SET, true, true),
+        0x37 => interrupts(Which::Two, SET, true, true),
+        0x34 => interrupts(Which::One, CLEAR, true, true),
+        0x35 => interrupts(Which::Two, CLEAR, true, true),
+        0x62 => Command::Flip(Which::One, SET),
+        0x63 => Command::Flip(Which::Two, SET),
+        0x60 => Command::Flip(Which::One, CLEAR),
+        0x61 => Command::Flip(Which::Two, CLEAR),
         _ => Command::Unknown,
     }
 }

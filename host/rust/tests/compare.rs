@@ -12,6 +12,8 @@ use rng::{from_environment, Rng};
 
 const CASES: u64 = 80_000;
 const CALLS: u64 = 120;
+/// The states from which every command byte is written.
+const COMMANDED_STATES: u64 = 1_000;
 /// What the fixed seeds are drawn from.
 const BASE_SEED: u64 = 0x9516_0A00;
 
@@ -837,4 +839,28 @@ fn random_calls() {
 #[test]
 fn random_calls_over_all_addresses() {
     run_cases(4, 2_000, BASE_SEED + 1, Some([0x100_0001, 0x100_0003]));
+}
+
+/// Each of the 256 command bytes, under any upper byte, at both ports.
+#[test]
+fn every_command_byte() {
+    let mut rng = Rng::new(BASE_SEED + 2);
+    for _ in 0..COMMANDED_STATES {
+        let start = scattered_state(&mut rng, 0x1_0000);
+        for at in Channel::BOTH {
+            for byte in 0..=0xFF {
+                let command = rng.word() & 0xFF00 | byte;
+                let plain = written(Plain::from_words(&start), at, command);
+                let proved = written(Controller::from_words(start), at, command);
+                assert_eq!(plain, proved, "{command:04X} at {at:?}, from {start:?}");
+            }
+        }
+    }
+}
+
+/// What a command written at a channel's port answers and leaves.
+fn written<C: Chip>(mut chip: C, at: Channel, command: u16) -> (Result<(), Refusal>, [u16; WORDS]) {
+    chip.write_pointer(port::COMMAND.of(at));
+    let answer = chip.write(command);
+    (answer, chip.words())
 }
