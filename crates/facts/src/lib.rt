@@ -1,4 +1,4 @@
-// What every crate shares: laws of numbers, masks and tables in specs/, and a flag's worth in a word.
+// What every crate shares: definitions and laws of numbers, masks and tables, and a flag's worth in a word.
 ghost use mathlib.Core.Path.{_≡_};
 ghost use Prim.Native.Nat.{_≤_};
 ghost use Rattle.facts.specs.Bits.{bitIf};

@@ -1,1 +1,1 @@
-// No code: what is promised of the definitions that the contracts cite, in specs/.
+// No code: what is promised of the definitions that the contracts cite; statements in specs/, theorems in proofs/.

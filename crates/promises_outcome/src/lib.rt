@@ -1,1 +1,1 @@
-// No code: that each call's contract leaves one outcome, and what a refused exported call leaves, in specs/.
+// No code: that each call's contract leaves one outcome, and what a refused exported call leaves; statements in specs/, theorems in proofs/.

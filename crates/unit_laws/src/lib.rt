@@ -1,1 +1,1 @@
-// No code: what holds of any two channels whose units are short programs of accesses, in specs/.
+// No code: what holds of any two channels whose units are short programs of accesses; definitions in specs/, laws in proofs/.
