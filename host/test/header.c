@@ -124,9 +124,46 @@ static void no_spaces(void) {
     CHECK(einflyga_answer_refusal(einflyga_run_last(run)) == EINFLYGA_RUN_TOO_LONG);
 }
 
+static void put_words(uint8_t *at, const uint16_t *words, size_t length) {
+    for (size_t i = 0; i < length; i++) {
+        at[2 * i] = (uint8_t)(words[i] >> 8);
+        at[2 * i + 1] = (uint8_t)words[i];
+    }
+}
+
+/* A search of three words for the marker A5h, which is the low half of the second: steps until it ends, and the status. */
+static void search_marker(uint16_t match_control, uint16_t steps, uint16_t status) {
+    static const uint16_t frame[] = {0x1112, 0x13A5, 0x1415};
+    const uint16_t table[] = {
+        EINFLYGA_RELOAD_CURRENT_A | EINFLYGA_RELOAD_CURRENT_COUNT | EINFLYGA_RELOAD_PATTERN_AND_MASK | EINFLYGA_RELOAD_MODE,
+        EINFLYGA_TAG_MEMORY | EINFLYGA_TAG_UP,
+        0x20,
+        3,
+        0xA5A5,
+        0x0000,
+        (uint16_t)(match_control | EINFLYGA_MODE_HIGH_SOFTWARE_REQUEST),
+        EINFLYGA_MODE_SEARCH_WORD | EINFLYGA_MODE_DEMAND_HOLD,
+    };
+    uint16_t state[EINFLYGA_WORDS];
+    uint8_t memory[MEMORY] = {0};
+    uint64_t run;
+
+    put_words(memory, table, sizeof table / sizeof *table);
+    put_words(memory + 0x20, frame, sizeof frame / sizeof *frame);
+    einflyga_fresh(state);
+    write_at(state, EINFLYGA_PORT_CHAIN_LOWER(1), 0);
+    write_at(state, EINFLYGA_PORT_COMMAND(1), EINFLYGA_COMMAND_START_CHAIN(1));
+    write_at(state, EINFLYGA_PORT_MASTER_MODE, EINFLYGA_MASTER_ENABLE);
+    run = einflyga_run(state, 100, memory, MEMORY, NULL, 0);
+    CHECK(einflyga_run_steps(run) == sizeof table / sizeof *table + steps);
+    CHECK(read_at(state, EINFLYGA_PORT_STATUS(1)) == (EINFLYGA_STATUS_NAC | status));
+}
+
 int main(void) {
     transfer();
     pointer_line_and_reset();
+    search_marker(EINFLYGA_MODE_HIGH_STOP_ON_MATCH, 3, EINFLYGA_STATUS_TC);
+    search_marker(EINFLYGA_MODE_HIGH_STOP_ON_BYTE_MATCH, 2, EINFLYGA_STATUS_MCL | EINFLYGA_STATUS_MC);
     no_spaces();
     return failures != 0;
 }

@@ -1,6 +1,7 @@
 pub mod Below
 pub mod Bits
 pub mod First
+pub mod Flags
 pub mod Lists
 pub mod Look
 pub mod Masks

@@ -1,5 +1,5 @@
 // The points of document 01 that are run, and the data sheet's initialization program and reload table (Figures 23 and 24), each
-// compared with what it should be.
+// compared with what it should be; then what comparisons tell (document 02, E2), as the status has it.
 use call_command::Writing;
 use call_command::Written;
 use call_read::Reading;
@@ -66,6 +66,30 @@ const FRAME: [u16; 16] = [
     0x0DD7,
     0x0ED8,
     0x0FD9,
+];
+
+// Pattern and datum, four times: both halves match, the high one alone, the low one alone, neither.
+const WORDS: [u16; 8] = [
+    0x1234,
+    0x1234,
+    0x1234,
+    0x1256,
+    0x1234,
+    0x5634,
+    0x1234,
+    0x5678,
+];
+
+// The same of bytes, each the high half of its datum.
+const BYTES: [u16; 8] = [
+    0x1212,
+    0x1200,
+    0x1234,
+    0x1200,
+    0x1234,
+    0x3400,
+    0x1234,
+    0x5600,
 ];
 
 fn say(what: &[u8], right: bool) {
@@ -266,6 +290,97 @@ fn say_what_runs(memory: &mut [u8], io: &mut [u8]) {
     );
 }
 
+fn status_of(u: Controller) -> u16 {
+    let a = call_read::read(call_pointer::write_pointer(u, 0x2E));
+    match a {
+        Reading::Refused(_) => 0,
+        Reading::Value(w) => w,
+    }
+}
+
+// The status after a chain and one unit, count 2, over a datum that stands on both sides, so that either may be the source.
+fn status_after(operation: u16, control: u16, pattern: u16, datum: u16) -> u16 {
+    let mut memory = [0u8; 64];
+    let mut ports = [0u8; 1];
+    let table = [
+        0x038A,
+        0x0040,
+        0x0030,
+        0x0040,
+        0x0038,
+        0x0002,
+        pattern,
+        0x0000,
+        0x0010 | control,
+        0x0020 | operation,
+    ];
+    let data = [datum, 0, 0, 0, datum];
+    store_words(&mut memory, &mut ports, true, 0, &table);
+    store_words(&mut memory, &mut ports, true, 0x30, &data);
+    let r = call_run::run(started(1, 0), 11, &mut memory, &mut ports);
+    status_of(r.state)
+}
+
+fn say_flag(status: u16, bit: u16, name: &[u8]) {
+    if status & bit != 0 {
+        io::write_all(STDOUT_FILENO, name);
+    }
+}
+
+fn say_told(halves: &[u8], status: u16) {
+    io::write_all(STDOUT_FILENO, halves);
+    say_flag(status, 0x10, b" MCH");
+    say_flag(status, 0x08, b" MCL");
+    say_flag(status, 0x04, b" MC");
+}
+
+fn say_digit(n: u16) {
+    let digit = [48 + (n % 10) as u8];
+    io::write_all(STDOUT_FILENO, &digit);
+}
+
+// A line: what is told of each pair under one match control.
+fn say_compared(name: &[u8], operation: u16, control: u16, pairs: [u16; 8]) {
+    io::write_all(STDOUT_FILENO, name);
+    io::write_all(STDOUT_FILENO, b", match control ");
+    say_digit(control);
+    say_told(
+        b": both",
+        status_after(operation, control, pairs[0], pairs[1]),
+    );
+    say_told(
+        b"; high",
+        status_after(operation, control, pairs[2], pairs[3]),
+    );
+    say_told(
+        b"; low",
+        status_after(operation, control, pairs[4], pairs[5]),
+    );
+    say_told(
+        b"; neither",
+        status_after(operation, control, pairs[6], pairs[7]),
+    );
+    io::write_all(STDOUT_FILENO, b"\n");
+}
+
+fn say_each_control(name: &[u8], operation: u16, pairs: [u16; 8]) {
+    say_compared(name, operation, 0, pairs);
+    say_compared(name, operation, 1, pairs);
+    say_compared(name, operation, 2, pairs);
+    say_compared(name, operation, 3, pairs);
+}
+
+fn say_comparisons() {
+    say_each_control(b"word transfer-and-search", 0x04, WORDS);
+    say_each_control(b"bytes funnelled to words, C", 0x0C, WORDS);
+    say_each_control(b"words funnelled to bytes, C", 0x1C, WORDS);
+    say_each_control(b"bytes funnelled to words, D", 0x0D, WORDS);
+    say_each_control(b"words funnelled to bytes, D", 0x1D, WORDS);
+    say_each_control(b"word search", 0x0E, WORDS);
+    say_each_control(b"byte transfer-and-search", 0x05, BYTES);
+    say_each_control(b"byte search", 0x0F, BYTES);
+}
+
 fn main() {
     say(b"C0h at 2E is 3", is_fresh_write_refused(0x2E, 0x00C0, 3));
     say(b"26h at 2C is 4", is_fresh_write_refused(0x2C, 0x0026, 4));
@@ -276,4 +391,5 @@ fn main() {
     let mut bytes = [0u8; 8192];
     let mut ports = [0u8; 8192];
     say_what_runs(&mut bytes, &mut ports);
+    say_comparisons();
 }

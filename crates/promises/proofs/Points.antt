@@ -60,5 +60,6 @@ points = record {
   p9 = refl;
   p10 = refl;
   p11 = (refl, refl, refl, refl);
+  e2 = refl;
   p12 = λ u e b. (at-2E 0x36 u e ∙ set-both u b, at-2E 0x20 u e ∙ set-none u b);
 }

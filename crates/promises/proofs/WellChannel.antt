@@ -1,9 +1,10 @@
 -- Promise D1d, a channel: what register writes, commands, Reset and the request line do to a channel keeps its absent bits 0 and its flags
 -- settled. Assumes nothing.
 use mathlib.Core.Path.{_≡_, refl, sym, _∙_}
-use mathlib.Core.Bool.{Bool, true, false, _||_, true≢false}
+use mathlib.Core.Bool.{Bool, true, false, true≢false}
 use Prim.Native.Nat.{ℕ}
 use native.Mathlib.Omega.{arith}
+use Rattle.facts.proofs.Flags.{neither}
 use Rattle.port.specs.declared.Which.{Which}
 use Rattle.port.specs.declared.Register.{Register}
 use Rattle.port.specs.declared.Register.the-variants as register
@@ -193,10 +194,6 @@ ip-sound false set w c h = h
 
 pub interrupts-sound : (p e set : Bool) (w : Which) (c : Channel) → Sound c → Sound (ipBy p set w (cieBy e set c))
 interrupts-sound p e set w c h = ip-sound p set w (cieBy e set c) (cie-sound e set c h)
-
-neither : (a b : Bool) → a || b ≡ false → (a ≡ false) × (b ≡ false)
-neither true b e = no e refl
-neither false b e = (refl, e)
 
 -- Start Chain is refused with CA or SIP, and clears NAC
 pub started-sound : (c : Channel) → cannotChain c ≡ false → Sound c → Sound (chainStarted c)

@@ -1,4 +1,5 @@
--- Document 01, "Points on both sides": the points that are proved, as a single table under one claim, of the rules themselves.
+-- Document 01, "Points on both sides": the points that are proved, as a single table under one claim, of the rules themselves; those of
+-- document 02's requests stand with them.
 -- Assumes nothing.
 use mathlib.Core.Path.{_≡_}
 use mathlib.Core.Bool.{true, false}
@@ -30,15 +31,19 @@ TakesWords r n = (m : List ℕ) (c : Channel) (k : ℕ) → wordAt m c ≡ r →
 abbrev pub counted : ℕ → Work → Work
 counted n w = record { set = record { a = w .set .a; b = w .set .b; count = n }; mode = w .mode; pattern = w .pattern; mask = w .mask; kept = w .kept }
 
--- a word search, stop on match, pattern 1200h, mask 00FFh
-abbrev pub sought : Set → Work
-sought s = record {
+-- a word search with this match control, pattern and mask
+abbrev pub searching : ℕ → ℕ → ℕ → Set → Work
+searching control pattern mask s = record {
   set = s;
-  mode = record { high = 2; low = 0xE };
-  pattern = 0x1200;
-  mask = 0x00FF;
+  mode = record { high = control; low = 0xE };
+  pattern = pattern;
+  mask = mask;
   kept = record { mch = false; mcl = false; met = false };
 }
+
+-- stop on match, pattern 1200h, mask 00FFh
+abbrev pub sought : Set → Work
+sought s = searching 2 0x1200 0x00FF s
 
 abbrev pub five : Set
 five = record { a = record { upper = 0x0040; lower = 0x0200 }; b = record { upper = 0; lower = 0 }; count = 5 }
@@ -67,5 +72,7 @@ pub record Points : Type 0 where
       × (movedOf (sought (movedOf (sought five) 0x1300 .set)) 0x12AA .compared .met ≡ true)
       × (movedOf (sought (movedOf (sought five) 0x1300 .set)) 0x12AA .set .count ≡ 3)
       × (movedOf (sought (movedOf (sought five) 0x1300 .set)) 0x12AA .tc ≡ false)
+  -- Match control 3, pattern 1234h, mask 0, word 5634h: MCL, not MCH, MC (document 02, E2).
+  pub e2 : movedOf (searching 3 0x1234 0x0000 five) 0x5634 .compared ≡ record { mch = false; mcl = true; met = true }
   -- Command 36h at 2E sets CIE and IP of channel 1; 20h changes nothing.
   pub p12 : (u : Controller) → u .pointer ≡ 0x2E → isBusy u ≡ false → (writeOf 0x36 u ≡ takes (interrupting u)) × (writeOf 0x20 u ≡ takes u)

@@ -1,15 +1,18 @@
 -- The tests and the unit, made of their calls' answers.
-use mathlib.Core.Path.{_≡_, refl, ap}
+use mathlib.Core.Path.{_≡_, refl, sym, ap, _∙_}
 use mathlib.Core.Bool.{Bool, true, false, cond, _||_}
 use Prim.Native.Nat.{ℕ}
+use Rattle.facts.proofs.Flags.{neither}
 use Rattle.space.specs.declared.Width.{Width}
-use Rattle.space.specs.declared.Width.the-variants.{Word}
+use Rattle.space.specs.declared.Width.the-variants.{Byte, Word}
 use Rattle.space.specs.Space.{Spaces}
 use Rattle.unit_comparison.specs.declared.Compared.{Compared}
 use Rattle.unit_comparison.specs.Comparison.{comparison}
 use Rattle.unit_count.specs.Count.{terminal}
+use Rattle.word_address.specs.declared.Address.{Address}
 use Rattle.word_address.specs.declared.Set.{Set}
-use Rattle.word_address.specs.Address.{sourceOf}
+use Rattle.word_address.specs.Address.{isOdd, sourceOf}
+use Rattle.word_operation.specs.declared.Moves.{Moves}
 use Rattle.word_operation.specs.declared.Operation.{Operation}
 use Rattle.word_operation.specs.declared.Moves.the-variants.{Transfer, Search, Funnel}
 use Rattle.word_operation.specs.Operation.{datumWidth}
@@ -53,6 +56,19 @@ pub funnel-odd : (flip : Bool) (s : Set) → oddAt Word (s .b) ≡ oddWord Funne
 unfolding oddWord
 funnel-odd true s = alone (oddAt Word (s .b))
 funnel-odd false s = last (oddAt Word (s .b))
+
+even-side : (w : Width) (a : Address) → isOdd a ≡ false → oddAt w a ≡ false
+even-side Byte a e = refl
+even-side Word a e = e
+
+-- where both addresses are even no word side is odd
+pub even-even : (m : Moves) (flip : Bool) (s : Set) → isOdd (s .a) || isOdd (s .b) ≡ false → false ≡ oddWord m flip s
+even-even (Transfer w) flip s e =
+    let n = neither (isOdd (s .a)) (isOdd (s .b)) e in
+    sym (λ i. even-side w (s .a) (n .0) i || even-side w (s .b) (n .1) i) ∙ transfer-odd w flip s
+even-even (Search w) true s e = sym (even-side w (s .b) (neither (isOdd (s .a)) (isOdd (s .b)) e .1)) ∙ search-odd w true s
+even-even (Search w) false s e = sym (even-side w (s .a) (neither (isOdd (s .a)) (isOdd (s .b)) e .0)) ∙ search-odd w false s
+even-even Funnel flip s e = sym (neither (isOdd (s .a)) (isOdd (s .b)) e .1) ∙ funnel-odd flip s
 
 -- ---- the unit
 

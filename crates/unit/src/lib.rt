@@ -41,10 +41,14 @@ fn is_odd_at(w: Width, a: Address) -> bool
 fn is_odd_word(moves: Moves, flip: bool, s: Set) -> bool
     ensures { λ r. ⌜ r ≡ oddWord moves flip s ⌝ }
 {
-    match moves {
-        Moves::Transfer(w) => is_odd_at(w, s.a) | is_odd_at(w, s.b),
-        Moves::Search(w) => is_odd_at(w, s.source(flip)),
-        Moves::Funnel => is_odd_at(Width::Word, s.b),
+    if s.a.is_odd() | s.b.is_odd() {
+        match moves {
+            Moves::Transfer(w) => is_odd_at(w, s.a) | is_odd_at(w, s.b),
+            Moves::Search(w) => is_odd_at(w, s.source(flip)),
+            Moves::Funnel => is_odd_at(Width::Word, s.b),
+        }
+    } else {
+        false
     }
 }
 

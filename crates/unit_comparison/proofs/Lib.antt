@@ -1,1 +1,3 @@
 pub mod Bitwise
+pub mod CodeLaws
+pub mod Laws

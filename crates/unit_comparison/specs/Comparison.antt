@@ -1,6 +1,7 @@
--- Document 01, "Moving a unit": the comparison. `Bitwise` shows what it says of each bit. Assumes nothing.
-use Prim.Native.Nat.{ℕ, _+_, _-_, _*_, _%_}
-use mathlib.Core.Bool.{Bool, cond, not}
+-- Document 01, "Moving a unit": the comparison, which document 02 (E2) makes one of each half. `Bitwise` shows what it says of each bit, `Laws`
+-- that byte operations keep their rule. Assumes nothing.
+use Prim.Native.Nat.{ℕ, _+_, _-_, _*_, _/_, _%_}
+use mathlib.Core.Bool.{Bool, cond, not, _&&_, _||_}
 use lib.Dec.{eqb, leb}
 use lib.Bits.{bitAnd, bitXor}
 use Rattle.space.specs.declared.Width.{Width}
@@ -12,17 +13,28 @@ abbrev pub bothHalves : Width → ℕ → ℕ
 bothHalves Byte datum = datum % 256 * 256 + datum % 256
 bothHalves Word datum = datum
 
--- A datum matches if it equals the pattern in every bit whose mask bit is 0: no bit outside the mask differs.
+-- A half matches if it equals its half of the pattern in every bit whose mask bit is 0: no bit outside the mask differs.
 abbrev pub matches : ℕ → ℕ → ℕ → Bool
-matches datum pattern mask = eqb (bitAnd (bitXor datum pattern) (65535 - mask)) 0
+matches half pattern mask = eqb (bitAnd (bitXor half pattern) (255 - mask)) 0
+
+-- A match is both halves under match control 0, 1 and 2, either half under 3.
+abbrev pub isHit : ℕ → Bool → Bool → Bool
+isHit control high low = cond (eqb control 3) (high || low) (high && low)
 
 -- Match control 0 and 1 stop on no match, 2 and 3 stop on match.
 abbrev pub meets : ℕ → Bool → Bool
 meets control hit = cond (leb 2 control) hit (not hit)
 
--- MCH and MCL are both written with that result. MC is a match under stop on match, a mismatch under stop on no match.
-abbrev pub told : ℕ → Bool → Compared
-told control hit = record { mch = hit; mcl = hit; met = meets control hit }
+-- MCH tells the high half, MCL the low half. MC is a match under stop on match, a mismatch under stop on no match.
+abbrev pub told : ℕ → Bool → Bool → Compared
+told control high low = record { mch = high; mcl = low; met = meets control (isHit control high low) }
+
+-- In word and funnelled operations each half is told by itself; in byte operations both tell whether all sixteen bits match.
+abbrev pub toldOf : Width → ℕ → Bool → Bool → Compared
+toldOf Byte control high low = told control (high && low) (high && low)
+toldOf Word control high low = told control high low
 
 unfoldable pub comparison : Width → ℕ → ℕ → ℕ → ℕ → Compared
-comparison w datum pattern mask control = told control (matches (bothHalves w datum) pattern mask)
+comparison w datum pattern mask control =
+    let d = bothHalves w datum in
+    toldOf w control (matches (d / 256) (pattern / 256) (mask / 256)) (matches (d % 256) (pattern % 256) (mask % 256))

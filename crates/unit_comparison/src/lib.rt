@@ -1,6 +1,8 @@
-// What a unit does with its datum: it is compared with the pattern.
+// What a unit does with its datum: it is compared with the pattern, each half with its own.
 ghost use mathlib.Core.Path.{_≡_};
-ghost use Rattle.unit_comparison.specs.Comparison.{matches, bothHalves, meets, comparison};
+ghost use Prim.Native.Nat.{_/_, _%_};
+ghost use lib.Dec.{eqb};
+ghost use Rattle.unit_comparison.specs.Comparison.{matches, bothHalves, isHit, meets, told, toldOf, comparison};
 use space::Width;
 
 // What a comparison tells: both halves' flags, and whether the operation's condition is met.
@@ -20,11 +22,18 @@ fn widened(w: Width, datum: u16) -> u16
     }
 }
 
-// A mask bit of 1 means that its bit is not compared.
-fn is_match(datum: u16, pattern: u16, mask: u16) -> bool
-    ensures { λ r. ⌜ r ≡ matches datum pattern mask ⌝ }
+// The bits in which a datum is not as the pattern; a mask bit of 1 means that its bit is not compared. A half matches where it has none.
+fn differing(datum: u16, pattern: u16, mask: u16) -> u16
+    ensures { λ r. ⌜ (eqb (r / 256) 0 ≡ matches (datum / 256) (pattern / 256) (mask / 256)) × (eqb (r % 256) 0 ≡ matches (datum % 256) (pattern % 256) (mask % 256)) ⌝ }
 {
-    (datum ^ pattern) & !mask == 0
+    (datum ^ pattern) & !mask
+}
+
+// Match control 3 takes either half for a match, the others both.
+fn is_hit(control: u16, high: bool, low: bool) -> bool
+    ensures { λ r. ⌜ r ≡ isHit control high low ⌝ }
+{
+    if control == 3 { high | low } else { high & low }
 }
 
 // Match control 0 and 1 stop on no match, 2 and 3 on match.
@@ -34,14 +43,29 @@ fn is_met(control: u16, hit: bool) -> bool
     if 2 <= control { hit } else { !hit }
 }
 
+fn tell(control: u16, high: bool, low: bool) -> Compared
+    ensures { λ r. ⌜ r ≡ told control high low ⌝ }
+{
+    Compared {
+        mch: high,
+        mcl: low,
+        met: is_met(control, is_hit(control, high, low)),
+    }
+}
+
+// Of a byte, which stands in both halves, both flags tell whether all sixteen bits match.
+fn tell_of(w: Width, control: u16, high: bool, low: bool) -> Compared
+    ensures { λ r. ⌜ r ≡ toldOf w control high low ⌝ }
+{
+    match w {
+        Width::Byte => tell(control, high & low, high & low),
+        Width::Word => tell(control, high, low),
+    }
+}
+
 pub fn compare(w: Width, datum: u16, pattern: u16, mask: u16, control: u16) -> Compared
     ensures { λ r. ⌜ r ≡ comparison w datum pattern mask control ⌝ }
 {
-    let hit = is_match(widened(w, datum), pattern, mask);
-    let met = is_met(control, hit);
-    Compared {
-        mch: hit,
-        mcl: hit,
-        met,
-    }
+    let wrong = differing(widened(w, datum), pattern, mask);
+    tell_of(w, control, wrong / 256 == 0, wrong % 256 == 0)
 }

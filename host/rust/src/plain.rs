@@ -1,4 +1,4 @@
-//! The plain model: document 01 in ordinary Rust, written without sight of the proved library.
+//! The plain model: document 01, with request E2 of document 02, in ordinary Rust, written without sight of the proved library.
 //!
 //! It is the other side of the comparison and the yardstick for speed.
 
@@ -11,6 +11,8 @@ const NO_VECTOR: u16 = 1 << 3;
 
 // Mode.
 const FLIP: u32 = 1 << 4;
+const MATCH_CONTROL: u32 = 3 << 16;
+const STOP_ON_EITHER_HALF: u32 = 3 << 16;
 const STOP_ON_MATCH: u32 = 1 << 17;
 const HARDWARE_MASK: u32 = 1 << 19;
 const SOFTWARE_REQUEST: u32 = 1 << 20;
@@ -255,8 +257,8 @@ struct Registers {
     sip: bool,
     ca: bool,
     nac: bool,
-    // MCH and MCL, which are always written together.
-    matched: bool,
+    mch: bool,
+    mcl: bool,
     reasons: Reasons,
     line: bool,
     change: bool,
@@ -323,8 +325,8 @@ impl Registers {
             | u16::from(self.sip) << 9
             | u16::from(self.mode & HARDWARE_MASK != 0) << 6
             | u16::from(self.line) << 5
-            | u16::from(self.matched) << 4
-            | u16::from(self.matched) << 3
+            | u16::from(self.mch) << 4
+            | u16::from(self.mcl) << 3
             | u16::from(self.reasons.mc()) << 2
             | u16::from(self.reasons.eop()) << 1
             | u16::from(self.reasons.tc())
@@ -335,8 +337,8 @@ impl Registers {
         self.save = u16::from(self.vector)
             | u16::from(who == Channel::Two) << 15
             | u16::from(self.line) << 14
-            | u16::from(self.matched) << 13
-            | u16::from(self.matched) << 12
+            | u16::from(self.mch) << 13
+            | u16::from(self.mcl) << 12
             | u16::from(self.ca) << 11
             | u16::from(self.reasons.mc()) << 10
             | u16::from(self.reasons.eop()) << 9
@@ -458,16 +460,33 @@ impl Registers {
         if self.current_count == 0 {
             reasons = Reasons::TC;
         }
-        if self.mode & COMPARES != 0 {
-            self.matched = (datum ^ self.pattern) & !self.mask == 0;
-            if self.matched == (self.mode & STOP_ON_MATCH != 0) {
-                reasons = reasons | Reasons::MC;
-            }
+        if self.mode & COMPARES != 0 && self.compare(datum) == (self.mode & STOP_ON_MATCH != 0) {
+            reasons = reasons | Reasons::MC;
         }
         if eop {
             reasons = reasons | Reasons::EOP;
         }
         reasons
+    }
+
+    /// Writes MCH and MCL; answers whether the datum is a match.
+    #[inline(always)]
+    fn compare(&mut self, datum: u16) -> bool {
+        let differing = (datum ^ self.pattern) & !self.mask;
+        let whole = differing == 0;
+        let of_bytes = matches!(self.mode & 0xF, 0x5 | 0xF);
+        (self.mch, self.mcl) = if of_bytes {
+            // One result, told in both.
+            (whole, whole)
+        } else {
+            // Each half by itself, of a funnelled word too.
+            (differing & 0xFF00 == 0, differing & 0x00FF == 0)
+        };
+        if self.mode & MATCH_CONTROL == STOP_ON_EITHER_HALF {
+            self.mch || self.mcl
+        } else {
+            whole
+        }
     }
 
     /// Reloads, or goes without; answers whether a chain follows.
@@ -568,8 +587,8 @@ impl Registers {
             self.save,
             self.ca.into(),
             self.nac.into(),
-            self.matched.into(),
-            self.matched.into(),
+            self.mch.into(),
+            self.mcl.into(),
             self.reasons.tc().into(),
             self.reasons.mc().into(),
             self.reasons.eop().into(),
@@ -606,7 +625,8 @@ impl Registers {
             save: words[20],
             ca: flag(21),
             nac: flag(22),
-            matched: flag(23),
+            mch: flag(23),
+            mcl: flag(24),
             reasons: reason(25, Reasons::TC) | reason(26, Reasons::MC) | reason(27, Reasons::EOP),
             line: flag(28),
             change: flag(29),

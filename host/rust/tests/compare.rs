@@ -21,6 +21,8 @@ const BASE_SEED: u64 = 0x9516_0A00;
 const RAREST: u64 = 50_000;
 
 const CARRIED_OPERATIONS: [usize; 10] = [0x0, 0x1, 0x4, 0x5, 0x8, 0x9, 0xC, 0xD, 0xE, 0xF];
+const COMPARING_WORDS: [usize; 4] = [0x4, 0xC, 0xD, 0xE];
+const COMPARING_BYTES: [usize; 2] = [0x5, 0xF];
 
 #[derive(Clone, Copy, Debug)]
 enum Call {
@@ -96,6 +98,8 @@ struct Tally {
     units: [[u64; 2]; 16],
     modes: [u64; 4],
     reasons: [u64; 8],
+    /// By datum (words, bytes), match control, and MCH with MCL.
+    compared: [[[u64; 4]; 4]; 2],
     /// By reload bit.
     entries: [u64; 10],
     second_interrupts: u64,
@@ -105,13 +109,13 @@ struct Tally {
 }
 
 impl Tally {
-    fn count(&mut self, before: &State, answer: Answer) {
+    fn count(&mut self, before: &State, after: &State, answer: Answer) {
         self.calls += 1;
         if let Some(refusal) = answer.refusal() {
             self.refusals[usize::from(refusal.number())] += 1;
         }
         match answer {
-            Answer::Step(Ok(step)) => self.count_step(before, step),
+            Answer::Step(Ok(step)) => self.count_step(before, after, step),
             Answer::Interrupt(Ok(interrupt)) => {
                 self.second_interrupts += u64::from(before.sip(interrupt.channel));
                 self.wordless_interrupts += u64::from(interrupt.save.is_none());
@@ -126,7 +130,7 @@ impl Tally {
         }
     }
 
-    fn count_step(&mut self, before: &State, step: Step) {
+    fn count_step(&mut self, before: &State, after: &State, step: Step) {
         let kind = match step {
             Step::Disabled => 0,
             Step::Idle => 1,
@@ -145,6 +149,12 @@ impl Tally {
                 self.units[mode & 0xF][mode >> 4 & 1] += 1;
                 self.modes[mode >> 5 & 3] += 1;
                 self.reasons[usize::from(reasons.bits())] += 1;
+                if COMPARING_WORDS.contains(&(mode & 0xF)) {
+                    self.compared[0][before.match_control(who)][after.halves(who)] += 1;
+                }
+                if COMPARING_BYTES.contains(&(mode & 0xF)) {
+                    self.compared[1][before.match_control(who)][after.halves(who)] += 1;
+                }
             }
             Step::Fetched(_) if before.reload_bits() != 0 => {
                 self.entries[top_bit(before.reload_bits()) as usize] += 1;
@@ -188,6 +198,22 @@ impl Tally {
         for (bits, &met) in self.reasons.iter().enumerate() {
             rows.push((format!("unit with EOP, MC, TC {bits:03b}"), met));
         }
+        for (control, met) in self.compared[0].iter().enumerate() {
+            for (halves, &met) in met.iter().enumerate() {
+                rows.push((
+                    format!("words, match control {control}, MCH, MCL {halves:02b}"),
+                    met,
+                ));
+            }
+        }
+        for (control, met) in self.compared[1].iter().enumerate() {
+            for halves in [0b00, 0b11] {
+                rows.push((
+                    format!("bytes, match control {control}, MCH, MCL {halves:02b}"),
+                    met[halves],
+                ));
+            }
+        }
         for (bit, &met) in self.entries.iter().enumerate() {
             rows.push((format!("fetch for reload bit {bit}"), met));
         }
@@ -219,6 +245,15 @@ impl State {
 
     fn mode_low(&self, who: Channel) -> u16 {
         self.channel(who, 13)
+    }
+
+    fn match_control(&self, who: Channel) -> usize {
+        usize::from(self.channel(who, 12) & 3)
+    }
+
+    /// MCH and MCL as bits 1 and 0.
+    fn halves(&self, who: Channel) -> usize {
+        usize::from(self.channel(who, 23) << 1 | self.channel(who, 24))
     }
 
     fn sip(&self, who: Channel) -> bool {
@@ -327,8 +362,8 @@ impl<'a> Case<'a> {
         if !same {
             self.fail(&format!("{call:?}\nproved {proved:?}\nplain  {plain:?}"));
         }
-        self.tally.count(&self.state, plain);
-        self.state = State(words);
+        let before = std::mem::replace(&mut self.state, State(words));
+        self.tally.count(&before, &self.state, plain);
         plain
     }
 
@@ -776,10 +811,9 @@ fn scattered_channel(rng: &mut Rng, memory: usize) -> [u16; 31] {
     words[13] = mode_low(rng);
     words[14] = rng.pick(&[0, 0, 0xFF00]) | rng.word() & 6;
     words[15] = lower_word(rng, memory);
-    for flag in [16, 17, 23, 25, 26, 27, 28, 29] {
+    for flag in [16, 17, 23, 24, 25, 26, 27, 28, 29] {
         words[flag] = rng.word() & 1;
     }
-    words[24] = words[23];
     words[19] = rng.word() & 0xFF;
     words[20] = rng.word();
     // SIP, CA and NAC, NAC alone, a pending chain: none of them with another.

@@ -1,4 +1,4 @@
-//! Document 01's points, on the plain model and on the proved library.
+//! The points of document 01 and of the requests, on the plain model and on the proved library.
 
 mod chip;
 
@@ -163,6 +163,86 @@ fn match_at_terminal_count<C: Chip>() {
     assert_eq!(run.steps, 2);
 }
 
+/// Pattern and datum: both halves match, the high one alone, the low one alone, neither. A byte datum is the high half.
+const WORDS: [[u16; 2]; 4] = [
+    [0x1234, 0x1234],
+    [0x1234, 0x1256],
+    [0x1234, 0x5634],
+    [0x1234, 0x5678],
+];
+const BYTES: [[u16; 2]; 4] = [
+    [0x1212, 0x1200],
+    [0x1234, 0x1200],
+    [0x1234, 0x3400],
+    [0x1234, 0x5600],
+];
+
+/// MCH, MCL and MC of a unit of count 1 over such a pair, as the status has them; the interrupt save has the same.
+fn told<C: Chip>(mode: [u16; 2], [pattern, datum]: [u16; 2]) -> u16 {
+    const INTERRUPT_ON_TC: u16 = 0x80;
+    let table = [
+        0x038A,
+        0x0040,
+        0x0030,
+        0x0040,
+        0x0038,
+        1,
+        pattern,
+        0,
+        SOFTWARE_REQUEST | mode[0],
+        INTERRUPT_ON_TC | DEMAND_HOLD | mode[1],
+    ];
+    let mut memory = [0; 64];
+    // The datum stands on both sides, so that either may be the source.
+    put_words(&mut memory[0x30..], &[datum]);
+    put_words(&mut memory[0x38..], &[datum]);
+    let mut chip = chained::<C>(&table, &mut memory);
+    chip.step(false, &mut memory, &mut []).expect("a unit");
+    let status = read(&mut chip, port::STATUS.of(ONE));
+    let save = read(&mut chip, port::INTERRUPT_SAVE.of(ONE));
+    assert_eq!(save >> 11 & 6 | save >> 10 & 1, status >> 2 & 7);
+    status >> 2 & 7
+}
+
+fn told_of_each<C: Chip>(mode: [u16; 2], pairs: [[u16; 2]; 4]) -> [u16; 4] {
+    pairs.map(|pair| told::<C>(mode, pair))
+}
+
+fn e2_words_tell_each_half<C: Chip>() {
+    const FLIP: u16 = 0x10;
+    for operation in [0x4, 0xC, 0xD, 0xE].into_iter().flat_map(|o| [o, FLIP | o]) {
+        for (control, told) in [
+            [0b110, 0b101, 0b011, 0b001],
+            [0b110, 0b101, 0b011, 0b001],
+            [0b111, 0b100, 0b010, 0b000],
+            [0b111, 0b101, 0b011, 0b000],
+        ]
+        .into_iter()
+        .enumerate()
+        {
+            let mode = [control as u16, operation];
+            assert_eq!(told_of_each::<C>(mode, WORDS), told, "{mode:X?}");
+        }
+    }
+}
+
+fn e2_bytes_keep_their_rule<C: Chip>() {
+    for operation in [0x5, 0xF] {
+        for (control, told) in [
+            [0b110, 0b001, 0b001, 0b001],
+            [0b110, 0b001, 0b001, 0b001],
+            [0b111, 0b000, 0b000, 0b000],
+            [0b111, 0b000, 0b000, 0b000],
+        ]
+        .into_iter()
+        .enumerate()
+        {
+            let mode = [control as u16, operation];
+            assert_eq!(told_of_each::<C>(mode, BYTES), told, "{mode:X?}");
+        }
+    }
+}
+
 fn p12_interrupt_commands<C: Chip>() {
     let mut chip = C::new();
     write(&mut chip, port::COMMAND.of(ONE), 0x36).unwrap();
@@ -226,6 +306,8 @@ on_both_sides! {
     p9_and_p10_funnelling
     p11_search
     match_at_terminal_count
+    e2_words_tell_each_half
+    e2_bytes_keep_their_rule
     p12_interrupt_commands
     refused_commands
     pointer

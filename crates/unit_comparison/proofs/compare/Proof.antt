@@ -11,4 +11,4 @@ compare-spec =
     (λ c κs. search needs)
     (λ c κs. search needs)
     (λ c κs. search needs)
-    (λ c. rw (c .is-met .ensures, c .before .is-match .ensures, c .before .before .widened .ensures)))
+    (λ c. rw (c .tell-of .ensures, c .before .differing .ensures .0, c .before .differing .ensures .1, c .before .before .widened .ensures)))
