@@ -123,10 +123,14 @@ extern "C" {
 #define EINFLYGA_MODE_CHAIN_ON_MC 0x4000
 #define EINFLYGA_MODE_CHAIN_ON_EOP 0x8000
 
-/* Mode high; loaded by chaining. */
+/*
+ * Mode high; loaded by chaining. A word, funnelled too, is a match if both of its halves match their half of the pattern,
+ * under STOP_ON_BYTE_MATCH if either does; for a byte the two are the same. A half whose mask bits are all 1 always matches,
+ * so put a marker of one byte into both halves of the pattern.
+ */
 #define EINFLYGA_MODE_HIGH_STOP_ON_NO_MATCH 0x0000
 #define EINFLYGA_MODE_HIGH_STOP_ON_MATCH 0x0002
-#define EINFLYGA_MODE_HIGH_STOP_ON_BYTE_MATCH 0x0003 /* of a word, funnelled too: either half; of a byte: as 2 */
+#define EINFLYGA_MODE_HIGH_STOP_ON_BYTE_MATCH 0x0003
 #define EINFLYGA_MODE_HIGH_DACK 0x0004 /* stored only */
 #define EINFLYGA_MODE_HIGH_HARDWARE_MASK 0x0008
 #define EINFLYGA_MODE_HIGH_SOFTWARE_REQUEST 0x0010
@@ -152,8 +156,8 @@ extern "C" {
 #define EINFLYGA_STATUS_SIP 0x0200
 #define EINFLYGA_STATUS_HARDWARE_MASK 0x0040
 #define EINFLYGA_STATUS_REQUEST_LINE 0x0020
-#define EINFLYGA_STATUS_MCH 0x0010 /* the high half of the latest word that was compared matched; of a byte: all sixteen bits */
-#define EINFLYGA_STATUS_MCL 0x0008 /* so the low half */
+#define EINFLYGA_STATUS_MCH 0x0010 /* the high half of the word compared last matched; of a byte, all sixteen bits */
+#define EINFLYGA_STATUS_MCL 0x0008 /* the low half; of a byte, as MCH */
 #define EINFLYGA_STATUS_MC 0x0004
 #define EINFLYGA_STATUS_EOP 0x0002
 #define EINFLYGA_STATUS_TC 0x0001

@@ -1,4 +1,5 @@
--- The search's promise is not empty: five bytes for 77, of which the third is the first that matches, three times. Assumes nothing.
+-- The search's promise is not empty: five bytes for 77, of which the third is the first that matches, three times; and five words, of which
+-- the third is the first with 77 in a half. Assumes nothing.
 use mathlib.Core.Path.{_≡_, refl, sym, _∙_}
 use mathlib.Core.Logic.{inl}
 use mathlib.Core.Bool.{Bool, true, false, true≢false}
@@ -7,7 +8,7 @@ use Prim.Native.Nat.{ℕ, zero, suc, _+_, _*_, _%_, _≤_, _<_}
 use native.Mathlib.Nat.{not-suc-le-zero, le-of-suc-le-suc}
 use native.Mathlib.Omega.{arith}
 use Rattle.facts.specs.Look.{look}
-use Rattle.space.specs.declared.Width.the-variants.{Byte}
+use Rattle.space.specs.declared.Width.the-variants.{Byte, Word}
 use Rattle.space.specs.declared.Place.{Place}
 use Rattle.space.specs.Space.{placeAt}
 use Rattle.space.proofs.Laws.{place-inj}
@@ -94,6 +95,33 @@ search-witness = let d = demand2b (for-77 One 0x40) 2 2 holding stretch in (stre
       ready = record { operation = refl; sixteen-bits = omega arith; pending = refl; spared = refl };
       registers = refl;
       first = third (hit (for-77 One 0x40) (holding .machine .spaces)) refl refl refl;
+      mine = refl;
+      untouched = (no-unit, (no-unit, (no-unit, tt)));
+    }
+
+-- ---- words under match control 3: the low half of the third is 77, and its high half is not
+
+abbrev pub in-a-half : Search
+in-a-half = record { channel = One; width = Word; start = record { upper = 0x40; lower = 0 }; units = 5; pattern = 0x4D4D; mask = 0; control = 3 }
+
+unfoldable pub halves : Moment
+halves = record {
+  calls = steps ∷ steps ∷ steps ∷ [];
+  machine = record {
+    controller = controller (searching 0x40 0x13 0x2E) noChannel;
+    spaces = record { memory = 10 ∷ 11 ∷ 20 ∷ 21 ∷ 30 ∷ 77 ∷ 77 ∷ 77 ∷ 77 ∷ 50 ∷ []; io = [] };
+  };
+}
+
+pub half-witness : EndsThird in-a-half 2 halves
+unfolding halves enabledFor working call stepOf performOf choice choiceOf intentOf turn isCandidate requests interleaves unitRefusal oddWord worked datumAt storedAt movedOf compared comparison steppedSet placeOf steppedOn directionOf operationOf requestModeOf look unitOf at with afterUnit movedBy some unended
+half-witness = let d = demand2b in-a-half 2 2 halves stretch in (stretch, refl, d .reasons refl, d .left refl refl)
+  where
+    stretch : SearchStretch in-a-half 2 2 halves
+    stretch = record {
+      ready = record { operation = refl; sixteen-bits = omega arith; pending = refl; spared = refl };
+      registers = refl;
+      first = third (hit in-a-half (halves .machine .spaces)) refl refl refl;
       mine = refl;
       untouched = (no-unit, (no-unit, (no-unit, tt)));
     }
