@@ -13,11 +13,11 @@ abbrev pub bothHalves : Width → ℕ → ℕ
 bothHalves Byte datum = datum % 256 * 256 + datum % 256
 bothHalves Word datum = datum
 
--- A half matches if it equals its half of the pattern in every bit whose mask bit is 0: no bit outside the mask differs.
+-- A half matches if it equals its half of the pattern in every bit whose mask bit is 0: no bit outside the mask differs. (By halves: document 02, E2.)
 abbrev pub matches : ℕ → ℕ → ℕ → Bool
 matches half pattern mask = eqb (bitAnd (bitXor half pattern) (255 - mask)) 0
 
--- A match is both halves under match control 0, 1 and 2, either half under 3.
+-- A match is both halves under match control 0, 1 and 2, either half under 3 (E2).
 abbrev pub isHit : ℕ → Bool → Bool → Bool
 isHit control high low = cond (eqb control 3) (high || low) (high && low)
 
@@ -25,7 +25,7 @@ isHit control high low = cond (eqb control 3) (high || low) (high && low)
 abbrev pub meets : ℕ → Bool → Bool
 meets control hit = cond (leb 2 control) hit (not hit)
 
--- MCH tells the high half, MCL the low half. MC is a match under stop on match, a mismatch under stop on no match.
+-- MCH tells the high half, MCL the low half (E2). MC is a match under stop on match, a mismatch under stop on no match.
 abbrev pub told : ℕ → Bool → Bool → Compared
 told control high low = record { mch = high; mcl = low; met = meets control (isHit control high low) }
 

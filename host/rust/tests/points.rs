@@ -178,7 +178,7 @@ const BYTES: [[u16; 2]; 4] = [
 ];
 
 /// MCH, MCL and MC of a unit of count 1 over such a pair, as the status has them; the interrupt save has the same.
-fn told<C: Chip>(mode: [u16; 2], [pattern, datum]: [u16; 2]) -> u16 {
+fn compared<C: Chip>(mode: [u16; 2], [pattern, datum]: [u16; 2]) -> u16 {
     const INTERRUPT_ON_TC: u16 = 0x80;
     let table = [
         0x038A,
@@ -204,43 +204,39 @@ fn told<C: Chip>(mode: [u16; 2], [pattern, datum]: [u16; 2]) -> u16 {
     status >> 2 & 7
 }
 
-fn told_of_each<C: Chip>(mode: [u16; 2], pairs: [[u16; 2]; 4]) -> [u16; 4] {
-    pairs.map(|pair| told::<C>(mode, pair))
+/// Under match control 0 to 3, each of these operations tells this of the pairs.
+fn each_tells<C: Chip>(operations: &[u16], pairs: [[u16; 2]; 4], told: [[u16; 4]; 4]) {
+    for &operation in operations {
+        for (control, told) in (0..).zip(told) {
+            let mode = [control, operation];
+            assert_eq!(
+                pairs.map(|pair| compared::<C>(mode, pair)),
+                told,
+                "{mode:X?}"
+            );
+        }
+    }
 }
 
 fn e2_words_tell_each_half<C: Chip>() {
-    const FLIP: u16 = 0x10;
-    for operation in [0x4, 0xC, 0xD, 0xE].into_iter().flat_map(|o| [o, FLIP | o]) {
-        for (control, told) in [
-            [0b110, 0b101, 0b011, 0b001],
-            [0b110, 0b101, 0b011, 0b001],
-            [0b111, 0b100, 0b010, 0b000],
-            [0b111, 0b101, 0b011, 0b000],
-        ]
-        .into_iter()
-        .enumerate()
-        {
-            let mode = [control as u16, operation];
-            assert_eq!(told_of_each::<C>(mode, WORDS), told, "{mode:X?}");
-        }
-    }
+    let flipped_or_not = [0x04, 0x14, 0x0C, 0x1C, 0x0D, 0x1D, 0x0E, 0x1E];
+    let told = [
+        [0b110, 0b101, 0b011, 0b001],
+        [0b110, 0b101, 0b011, 0b001],
+        [0b111, 0b100, 0b010, 0b000],
+        [0b111, 0b101, 0b011, 0b000],
+    ];
+    each_tells::<C>(&flipped_or_not, WORDS, told);
 }
 
 fn e2_bytes_keep_their_rule<C: Chip>() {
-    for operation in [0x5, 0xF] {
-        for (control, told) in [
-            [0b110, 0b001, 0b001, 0b001],
-            [0b110, 0b001, 0b001, 0b001],
-            [0b111, 0b000, 0b000, 0b000],
-            [0b111, 0b000, 0b000, 0b000],
-        ]
-        .into_iter()
-        .enumerate()
-        {
-            let mode = [control as u16, operation];
-            assert_eq!(told_of_each::<C>(mode, BYTES), told, "{mode:X?}");
-        }
-    }
+    let told = [
+        [0b110, 0b001, 0b001, 0b001],
+        [0b110, 0b001, 0b001, 0b001],
+        [0b111, 0b000, 0b000, 0b000],
+        [0b111, 0b000, 0b000, 0b000],
+    ];
+    each_tells::<C>(&[0x05, 0x15, 0x0F, 0x1F], BYTES, told);
 }
 
 fn p12_interrupt_commands<C: Chip>() {
