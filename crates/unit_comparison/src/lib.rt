@@ -1,8 +1,8 @@
 // What a unit does with its datum: it is compared with the pattern, each half with its own.
 ghost use mathlib.Core.Path.{_≡_};
-ghost use Prim.Native.Nat.{_/_, _%_};
-ghost use lib.Dec.{eqb};
-ghost use Rattle.unit_comparison.specs.Comparison.{matches, bothHalves, isHit, meets, told, toldOf, comparison};
+ghost use Prim.Native.Nat.{_-_};
+ghost use lib.Bits.{bitAnd, bitXor};
+ghost use Rattle.unit_comparison.specs.Comparison.{bothHalves, isHit, meets, told, toldOf, comparison};
 use space::Width;
 
 // What a comparison tells: both halves' flags, and whether the operation's condition is met.
@@ -24,7 +24,7 @@ fn widened(w: Width, datum: u16) -> u16
 
 // The bits in which a datum is not as the pattern; a mask bit of 1 means that its bit is not compared. A half matches where it has none.
 fn differing(datum: u16, pattern: u16, mask: u16) -> u16
-    ensures { λ r. ⌜ (eqb (r / 256) 0 ≡ matches (datum / 256) (pattern / 256) (mask / 256)) × (eqb (r % 256) 0 ≡ matches (datum % 256) (pattern % 256) (mask % 256)) ⌝ }
+    ensures { λ r. ⌜ r ≡ bitAnd (bitXor datum pattern) (65535 - mask) ⌝ }
 {
     (datum ^ pattern) & !mask
 }

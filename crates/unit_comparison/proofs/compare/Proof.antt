@@ -1,5 +1,7 @@
 use borrow.Author.Needs.{needs}
-use Rattle.unit_comparison.specs.Comparison.{comparison}
+use native.Mathlib.Omega.{arith}
+use Rattle.unit_comparison.specs.Comparison.{bothHalves, comparison}
+use Rattle.unit_comparison.proofs.CodeLaws.{halves}
 use Rattle.unit_comparison.proofs.compare.Statement.{statement}
 use Rattle.unit_comparison.proofs.compare.Tie as tie
 
@@ -11,4 +13,7 @@ compare-spec =
     (λ c κs. search needs)
     (λ c κs. search needs)
     (λ c κs. search needs)
-    (λ c. rw (c .tell-of .ensures, c .before .differing .ensures .0, c .before .differing .ensures .1, c .before .before .widened .ensures)))
+    (λ c.
+    let a = c .before .before .before .args in
+    let h = halves (bothHalves (a .w) (a .datum)) (a .pattern) (a .mask) (omega arith) in
+    rw (c .tell-of .ensures, c .before .differing .ensures, c .before .before .widened .ensures, h .0, h .1)))
