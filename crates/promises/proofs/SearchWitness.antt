@@ -8,6 +8,7 @@ use Prim.Native.Nat.{ℕ, zero, suc, _+_, _*_, _%_, _≤_, _<_}
 use native.Mathlib.Nat.{not-suc-le-zero, le-of-suc-le-suc}
 use native.Mathlib.Omega.{arith}
 use Rattle.facts.specs.Look.{look}
+use Rattle.space.specs.declared.Width.{Width}
 use Rattle.space.specs.declared.Width.the-variants.{Byte, Word}
 use Rattle.space.specs.declared.Place.{Place}
 use Rattle.space.specs.Space.{placeAt}
@@ -48,9 +49,12 @@ use Rattle.promises.proofs.Demand2b.{demand2b}
 use Rattle.promises.proofs.Paced.{place-is}
 use Rattle.promises.proofs.InterleaveWitness.{working}
 
--- the channel of the search, and the upper word of the address 0 that it begins at
+-- the width, the match control, the channel of the search, and the upper word of the address 0 that it begins at
+abbrev pub seeking-77 : Width → ℕ → Which → ℕ → Search
+seeking-77 d control w upper = record { channel = w; width = d; start = record { upper = upper; lower = 0 }; units = 5; pattern = 0x4D4D; mask = 0; control = control }
+
 abbrev pub for-77 : Which → ℕ → Search
-for-77 w upper = record { channel = w; width = Byte; start = record { upper = upper; lower = 0 }; units = 5; pattern = 0x4D4D; mask = 0; control = 2 }
+for-77 w upper = seeking-77 Byte 2 w upper
 
 -- a channel with such a search before it
 abbrev pub searching : ℕ → ℕ → ℕ → Channel
@@ -102,7 +106,7 @@ search-witness = let d = demand2b (for-77 One 0x40) 2 2 holding stretch in (stre
 -- ---- words under match control 3: the low half of the third is 77, and its high half is not
 
 abbrev pub in-a-half : Search
-in-a-half = record { channel = One; width = Word; start = record { upper = 0x40; lower = 0 }; units = 5; pattern = 0x4D4D; mask = 0; control = 3 }
+in-a-half = seeking-77 Word 3 One 0x40
 
 unfoldable pub halves : Moment
 halves = record {

@@ -1,5 +1,5 @@
 -- What a match says of each bit: a half matches exactly where it equals its half of the pattern in every bit whose mask bit is 0, and both
--- halves match exactly where the whole datum does so. Assumes nothing.
+-- halves match exactly where the whole datum equals the pattern so. Assumes nothing.
 use mathlib.Core.Path.{_≡_, refl, sym, ap, subst, _∙_}
 use mathlib.Core.Bool.{Bool, true, false, _&&_}
 use Prim.Native.Nat.{ℕ, zero, suc, _+_, _-_, _/_, _%_, _^_, _<_, min, suc-le-suc}
@@ -7,10 +7,11 @@ use native.Mathlib.Nat.{not-suc-le-zero, zero-div, zero-min, eq-zero-or-pos}
 use mathlib.Core.Logic.{⊎-elim}
 use native.Mathlib.Omega.{arith}
 use native.Mathlib.Numerals.{one-add}
-use lib.Dec.{T, eqb→eq}
-use lib.Pow.{shr-shr, field, mod-mod-pow}
-use lib.Bits.{bitAnd, bitXor, differ, and-step, and-shr, xor-step, xor-shr, and-lt, xor-lt}
-use Rattle.unit_comparison.specs.Comparison.{matches}
+use borrow.Author.Tests.{eqb-true}
+use lib.Dec.{T, eqb, eqb→eq}
+use lib.Pow.{shr-shr}
+use lib.Bits.{bitAnd, bitXor, differ, and-step, and-shr, xor-step, xor-shr, and-lt, xor-lt, and-mod, xor-mod}
+use Rattle.unit_comparison.specs.Comparison.{differing, matches}
 
 abbrev pub bit : ℕ → ℕ → ℕ
 bit k n = n / 2 ^ k % 2
@@ -65,88 +66,61 @@ differ-self : (x : ℕ) → differ x x ≡ 0
 differ-self zero = refl
 differ-self (suc x) = differ-self x
 
+-- ---- no bit differs, of any width
+
+module _ (w d p m : ℕ) (hd : d < 2 ^ w) (hp : p < 2 ^ w) (hm : m < 2 ^ w) where
+  bit-differing : (k : ℕ) → k < w → bit k (differing (2 ^ w - 1) d p m) ≡ min (differ (bit k d) (bit k p)) (1 - bit k m)
+  bit-differing k h = rw (bit-and k (bitXor d p) (2 ^ w - 1 - m), bit-xor k d p, bit-not w k m h hm)
+
+  none-same : differing (2 ^ w - 1) d p m ≡ 0 → Same w d p m
+  none-same z k h e =
+      let b : min (differ (bit k d) (bit k p)) (1 - bit k m) ≡ 0 = sym (bit-differing k h) ∙ rw z (zero-bit k) in
+      differ-none (bit k d) (bit k p) (omega arith)
+
+  right : Same w d p m → (k : ℕ) → k < w → bit k (differing (2 ^ w - 1) d p m) ≡ 0
+  right f k h =
+      bit-differing k h
+      ∙ ⊎-elim (λ (e : bit k m ≡ 0). rw (f k h e, differ-self (bit k p)) (zero-min (1 - bit k m))) (λ (g : 0 < bit k m). omega arith) (eq-zero-or-pos (bit k m))
+
+  same-none : Same w d p m → differing (2 ^ w - 1) d p m ≡ 0
+  same-none f = bits-zero w (differing (2 ^ w - 1) d p m) (and-lt w (bitXor d p) (2 ^ w - 1 - m) (xor-lt w d p hd hp) (omega arith)) (right f)
+
 -- ---- a half
-
--- the bits that are compared, and differ
-abbrev wrong : ℕ → ℕ → ℕ → ℕ
-wrong d p m = bitAnd (bitXor d p) (255 - m)
-
-bit-wrong : (k d p m : ℕ) → k < 8 → m < 256 → bit k (wrong d p m) ≡ min (differ (bit k d) (bit k p)) (1 - bit k m)
-bit-wrong k d p m h g = rw (bit-and k (bitXor d p) (255 - m), bit-xor k d p, bit-not 8 k m h g)
 
 module _ (d p m : ℕ) (hd : d < 256) (hp : p < 256) (hm : m < 256) where
   pub matches-same : T (matches d p m) → Same 8 d p m
-  matches-same t k h e =
-      let z : wrong d p m ≡ 0 = eqb→eq (wrong d p m) 0 t in
-      let b : min (differ (bit k d) (bit k p)) (1 - bit k m) ≡ 0 = sym (bit-wrong k d p m h hm) ∙ rw z (zero-bit k) in
-      differ-none (bit k d) (bit k p) (omega arith)
-
-  right : Same 8 d p m → (k : ℕ) → k < 8 → bit k (wrong d p m) ≡ 0
-  right f k h =
-      bit-wrong k d p m h hm
-      ∙ ⊎-elim (λ (e : bit k m ≡ 0). rw (f k h e, differ-self (bit k p)) (zero-min (1 - bit k m))) (λ (g : 0 < bit k m). omega arith) (eq-zero-or-pos (bit k m))
+  matches-same t = none-same 8 d p m hd hp hm (eqb→eq (differing 255 d p m) 0 t)
 
   pub same-matches : Same 8 d p m → T (matches d p m)
-  same-matches f =
-      let small : wrong d p m < 2 ^ 8 = and-lt 8 (bitXor d p) (255 - m) (xor-lt 8 d p hd hp) (omega arith) in
-      rw (bits-zero 8 (wrong d p m) small (right f)) tt
+  same-matches f = rw (same-none 8 d p m hd hp hm f) tt
 
--- ---- the whole datum
+-- ---- both halves
 
-bit-high : (k n : ℕ) → bit k (n / 256) ≡ bit (8 + k) n
-bit-high k n = rw (shr-shr n 8 k)
+-- of the sixteen bits that differ a half is 0 exactly if that half matches
+pub halves : (d p m : ℕ) → m < 65536
+    → (eqb (differing 65535 d p m / 256) 0 ≡ matches (d / 256) (p / 256) (m / 256)) × (eqb (differing 65535 d p m % 256) 0 ≡ matches (d % 256) (p % 256) (m % 256))
+halves d p m h =
+    let above : (65535 - m) / 256 ≡ 255 - m / 256 = omega arith in
+    let below : (65535 - m) % 256 ≡ 255 - m % 256 = omega arith in
+    (rw (and-shr (bitXor d p) (65535 - m) 8, xor-shr d p 8, above), rw (and-mod (bitXor d p) (65535 - m) 8, xor-mod d p 8, below))
 
-bit-below : (j k n : ℕ) → bit k (n % 2 ^ (j + 1 + k)) ≡ bit k n
-bit-below j k n = rw (field n (j + 1) k) (mod-mod-pow (n / 2 ^ k) j 1)
-
-bit-low : (k n : ℕ) → k < 8 → bit k (n % 256) ≡ bit k n
-bit-low k n h =
-    let all : 7 - k + 1 + k ≡ 8 = omega arith in
-    subst (λ (w : ℕ). bit k (n % 2 ^ w) ≡ bit k n) all (bit-below (7 - k) k n)
-
-module _ (d p m : ℕ) where
-  above : Same 8 (d / 256) (p / 256) (m / 256) → (k : ℕ) → k < 8 → bit (8 + k) m ≡ 0 → bit (8 + k) d ≡ bit (8 + k) p
-  above f k h e = sym (bit-high k d) ∙ f k h (bit-high k m ∙ e) ∙ bit-high k p
-
-  halves-same : Same 8 (d / 256) (p / 256) (m / 256) → Same 8 (d % 256) (p % 256) (m % 256) → Same 16 d p m
-  halves-same high low k h e =
-      ⊎-elim
-      (λ (z : 8 - k ≡ 0).
-      let at : 8 + (k - 8) ≡ k = omega arith in
-      subst (λ (i : ℕ). bit i m ≡ 0 → bit i d ≡ bit i p) at (above high (k - 8) (omega arith)) e)
-      (λ (z : 0 < 8 - k).
-      let g : k < 8 = omega arith in
-      sym (bit-low k d g) ∙ low k g (bit-low k m g ∙ e) ∙ bit-low k p g)
-      (eq-zero-or-pos (8 - k))
-
-  same-high : Same 16 d p m → Same 8 (d / 256) (p / 256) (m / 256)
-  same-high f k h e = bit-high k d ∙ f (8 + k) (omega arith) (sym (bit-high k m) ∙ e) ∙ sym (bit-high k p)
-
-  same-low : Same 16 d p m → Same 8 (d % 256) (p % 256) (m % 256)
-  same-low f k h e = bit-low k d h ∙ f k (omega arith) (sym (bit-low k m h) ∙ e) ∙ sym (bit-low k p h)
-
-each : (a b : Bool) → T (a && b) → T a × T b
-each true b t = (tt, t)
-each false b t = absurd t
-
-together : (a b : Bool) → T a → T b → T (a && b)
-together true b s t = t
-together false b s t = s
+zero-halves : (n : ℕ) → T (eqb (n / 256) 0 && eqb (n % 256) 0) → n ≡ 0
+zero-halves n t = go (eqb (n / 256) 0) refl t
+  where
+    go : (b : Bool) → eqb (n / 256) 0 ≡ b → T (b && eqb (n % 256) 0) → n ≡ 0
+    go true e t = omega (arith, eqb-true (n / 256) 0 e, eqb→eq (n % 256) 0 t)
+    go false e t = absurd t
 
 -- both halves match
 abbrev pub whole : ℕ → ℕ → ℕ → Bool
 whole d p m = matches (d / 256) (p / 256) (m / 256) && matches (d % 256) (p % 256) (m % 256)
 
 module _ (d p m : ℕ) (hd : d < 65536) (hp : p < 65536) (hm : m < 65536) where
+  both : eqb (differing 65535 d p m / 256) 0 && eqb (differing 65535 d p m % 256) 0 ≡ whole d p m
+  both = λ i. halves d p m hm .0 i && halves d p m hm .1 i
+
   pub whole-same : T (whole d p m) → Same 16 d p m
-  whole-same t =
-      let h = each (matches (d / 256) (p / 256) (m / 256)) (matches (d % 256) (p % 256) (m % 256)) t in
-      halves-same d p m
-      (matches-same (d / 256) (p / 256) (m / 256) (omega arith) (omega arith) (omega arith) (h .0))
-      (matches-same (d % 256) (p % 256) (m % 256) (omega arith) (omega arith) (omega arith) (h .1))
+  whole-same t = none-same 16 d p m hd hp hm (zero-halves (differing 65535 d p m) (subst T (sym both) t))
 
   pub same-whole : Same 16 d p m → T (whole d p m)
-  same-whole f =
-      together (matches (d / 256) (p / 256) (m / 256)) (matches (d % 256) (p % 256) (m % 256))
-      (same-matches (d / 256) (p / 256) (m / 256) (omega arith) (omega arith) (omega arith) (same-high d p m f))
-      (same-matches (d % 256) (p % 256) (m % 256) (omega arith) (omega arith) (omega arith) (same-low d p m f))
+  same-whole f = subst T both (rw (same-none 16 d p m hd hp hm f) tt)

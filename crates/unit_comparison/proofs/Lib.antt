@@ -1,3 +1,2 @@
 pub mod Bitwise
-pub mod CodeLaws
 pub mod Laws

@@ -13,9 +13,13 @@ abbrev pub bothHalves : Width → ℕ → ℕ
 bothHalves Byte datum = datum % 256 * 256 + datum % 256
 bothHalves Word datum = datum
 
--- A half matches if it equals its half of the pattern in every bit whose mask bit is 0: no bit outside the mask differs. (By halves: document 02, E2.)
+-- The bits whose mask bit is 0 in which a datum differs from the pattern; `ones` has a 1 for each bit of the width.
+abbrev pub differing : ℕ → ℕ → ℕ → ℕ → ℕ
+differing ones datum pattern mask = bitAnd (bitXor datum pattern) (ones - mask)
+
+-- A half matches if it equals its half of the pattern in every bit whose mask bit is 0 (by halves: document 02, E2).
 abbrev pub matches : ℕ → ℕ → ℕ → Bool
-matches half pattern mask = eqb (bitAnd (bitXor half pattern) (255 - mask)) 0
+matches half pattern mask = eqb (differing 255 half pattern mask) 0
 
 -- A match is both halves under match control 0, 1 and 2, either half under 3 (E2).
 abbrev pub isHit : ℕ → Bool → Bool → Bool

@@ -1,8 +1,6 @@
 // What a unit does with its datum: it is compared with the pattern, each half with its own.
 ghost use mathlib.Core.Path.{_≡_};
-ghost use Prim.Native.Nat.{_-_};
-ghost use lib.Bits.{bitAnd, bitXor};
-ghost use Rattle.unit_comparison.specs.Comparison.{bothHalves, isHit, meets, told, toldOf, comparison};
+ghost use Rattle.unit_comparison.specs.Comparison.{bothHalves, differing, isHit, meets, told, toldOf, comparison};
 use space::Width;
 
 // What a comparison tells: both halves' flags, and whether the operation's condition is met.
@@ -22,9 +20,9 @@ fn widened(w: Width, datum: u16) -> u16
     }
 }
 
-// The bits in which a datum is not as the pattern; a mask bit of 1 means that its bit is not compared. A half matches where it has none.
+// A mask bit of 1 means that its bit is not compared. A half matches where it has none of these bits.
 fn differing(datum: u16, pattern: u16, mask: u16) -> u16
-    ensures { λ r. ⌜ r ≡ bitAnd (bitXor datum pattern) (65535 - mask) ⌝ }
+    ensures { λ r. ⌜ r ≡ differing 65535 datum pattern mask ⌝ }
 {
     (datum ^ pattern) & !mask
 }

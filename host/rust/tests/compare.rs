@@ -21,8 +21,11 @@ const BASE_SEED: u64 = 0x9516_0A00;
 const RAREST: u64 = 50_000;
 
 const CARRIED_OPERATIONS: [usize; 10] = [0x0, 0x1, 0x4, 0x5, 0x8, 0x9, 0xC, 0xD, 0xE, 0xF];
-const COMPARING_WORDS: [usize; 4] = [0x4, 0xC, 0xD, 0xE];
-const COMPARING_BYTES: [usize; 2] = [0x5, 0xF];
+/// The operations that compare words and those that compare bytes, with what MCH and MCL may be after them.
+const COMPARING: [(&str, &[usize], &[usize]); 2] = [
+    ("words", &[0x4, 0xC, 0xD, 0xE], &[0b00, 0b01, 0b10, 0b11]),
+    ("bytes", &[0x5, 0xF], &[0b00, 0b11]),
+];
 
 #[derive(Clone, Copy, Debug)]
 enum Call {
@@ -98,7 +101,7 @@ struct Tally {
     units: [[u64; 2]; 16],
     modes: [u64; 4],
     reasons: [u64; 8],
-    /// By datum (words, bytes), match control, and MCH with MCL.
+    /// By row of `COMPARING`, match control, and MCH with MCL.
     compared: [[[u64; 4]; 4]; 2],
     /// By reload bit.
     entries: [u64; 10],
@@ -149,11 +152,10 @@ impl Tally {
                 self.units[mode & 0xF][mode >> 4 & 1] += 1;
                 self.modes[mode >> 5 & 3] += 1;
                 self.reasons[usize::from(reasons.bits())] += 1;
-                if COMPARING_WORDS.contains(&(mode & 0xF)) {
-                    self.compared[0][before.match_control(who)][after.halves(who)] += 1;
-                }
-                if COMPARING_BYTES.contains(&(mode & 0xF)) {
-                    self.compared[1][before.match_control(who)][after.halves(who)] += 1;
+                for ((_, operations, _), met) in COMPARING.iter().zip(&mut self.compared) {
+                    if operations.contains(&(mode & 0xF)) {
+                        met[before.match_control(who)][after.halves(who)] += 1;
+                    }
                 }
             }
             Step::Fetched(_) if before.reload_bits() != 0 => {
@@ -198,20 +200,12 @@ impl Tally {
         for (bits, &met) in self.reasons.iter().enumerate() {
             rows.push((format!("unit with EOP, MC, TC {bits:03b}"), met));
         }
-        for (control, met) in self.compared[0].iter().enumerate() {
-            for (halves, &met) in met.iter().enumerate() {
-                rows.push((
-                    format!("words, match control {control}, MCH, MCL {halves:02b}"),
-                    met,
-                ));
-            }
-        }
-        for (control, met) in self.compared[1].iter().enumerate() {
-            for halves in [0b00, 0b11] {
-                rows.push((
-                    format!("bytes, match control {control}, MCH, MCL {halves:02b}"),
-                    met[halves],
-                ));
+        for ((data, _, told), met) in COMPARING.iter().zip(&self.compared) {
+            for (control, met) in met.iter().enumerate() {
+                for &halves in *told {
+                    let name = format!("{data}, match control {control}, MCH, MCL {halves:02b}");
+                    rows.push((name, met[halves]));
+                }
             }
         }
         for (bit, &met) in self.entries.iter().enumerate() {

@@ -1,7 +1,7 @@
 use borrow.Author.Needs.{needs}
 use native.Mathlib.Omega.{arith}
 use Rattle.unit_comparison.specs.Comparison.{bothHalves, comparison}
-use Rattle.unit_comparison.proofs.CodeLaws.{halves}
+use Rattle.unit_comparison.proofs.Bitwise.{halves}
 use Rattle.unit_comparison.proofs.compare.Statement.{statement}
 use Rattle.unit_comparison.proofs.compare.Tie as tie
 
