@@ -209,6 +209,28 @@ enum einflyga_kind {
 #define EINFLYGA_REASON_MC 0x2
 #define EINFLYGA_REASON_EOP 0x4
 
+/*
+ * Why a channel stands still: the first of these that is true of the state, in this order, and nothing wrong where none is.
+ * Numbers 13 to 15 are not used yet. A chain of the channel, pending or under way, passes over CA to NO_REQUEST,
+ * OPERATION and ODD_WORD.
+ */
+enum einflyga_cause {
+    EINFLYGA_CAUSE_NOTHING_WRONG = 0,  /* the next step without EOP fetches a word or does a unit for the channel */
+    EINFLYGA_CAUSE_DISABLED = 1,       /* master mode does not enable the controller */
+    EINFLYGA_CAUSE_OTHERS_CHAIN = 2,   /* a chain is under way on the other channel */
+    EINFLYGA_CAUSE_NOTE = 3,           /* the next step gives the bus back */
+    EINFLYGA_CAUSE_OTHERS_BUS = 4,     /* the other channel keeps the bus */
+    EINFLYGA_CAUSE_CA = 5,             /* chain aborted: write the chain address, then Start Chain */
+    EINFLYGA_CAUSE_SIP = 6,            /* a second interrupt waits: acknowledge */
+    EINFLYGA_CAUSE_NAC = 7,            /* the operation has ended: Start Chain */
+    EINFLYGA_CAUSE_MASKED = 8,         /* clearing the hardware mask would make the request active */
+    EINFLYGA_CAUSE_NO_REQUEST = 9,     /* .. would not help */
+    EINFLYGA_CAUSE_ODD_CHAIN = 10,     /* the first fetch of the chain would be refused by 6 */
+    EINFLYGA_CAUSE_OPERATION = 11,     /* the unit would be refused by 7 */
+    EINFLYGA_CAUSE_ODD_WORD = 12,      /* .. by 8 */
+    EINFLYGA_CAUSE_OTHERS_TURN = 16    /* both want the bus, and the other comes first */
+};
+
 /* A fresh controller: all zeros, then reset. */
 void einflyga_fresh(uint16_t state[EINFLYGA_WORDS]);
 
@@ -245,6 +267,12 @@ uint32_t einflyga_step(uint16_t state[EINFLYGA_WORDS], bool eop, uint8_t *memory
 uint64_t einflyga_run(uint16_t state[EINFLYGA_WORDS], uint32_t budget, uint8_t *memory, size_t memory_length,
                       uint8_t *io, size_t io_length);
 
+/*
+ * Says why a channel stands still, over spaces of these lengths: einflyga_why_cause. Changes nothing. Refusal 10.
+ * No rule asks for the lengths yet.
+ */
+uint32_t einflyga_why(const uint16_t state[EINFLYGA_WORDS], uint32_t channel, size_t memory_length, size_t io_length);
+
 /* The refusal of any answer but a run's. */
 static inline enum einflyga_refusal einflyga_answer_refusal(uint32_t answer) {
     return (enum einflyga_refusal)(answer & 0xFF);
@@ -269,6 +297,46 @@ static inline unsigned einflyga_step_channel(uint32_t answer) { return answer >>
 
 /* The set of EINFLYGA_REASON_ bits of a unit. */
 static inline unsigned einflyga_step_reasons(uint32_t answer) { return answer >> 24 & 7; }
+
+/* Why the channel stands still. */
+static inline enum einflyga_cause einflyga_why_cause(uint32_t answer) {
+    return (enum einflyga_cause)(answer >> 8 & 0xFF);
+}
+
+/* The reason in words, for a person. */
+static inline const char *einflyga_cause_words(enum einflyga_cause cause) {
+    switch (cause) {
+    case EINFLYGA_CAUSE_NOTHING_WRONG:
+        return "nothing wrong";
+    case EINFLYGA_CAUSE_DISABLED:
+        return "disabled";
+    case EINFLYGA_CAUSE_OTHERS_CHAIN:
+        return "chain under way on the other channel";
+    case EINFLYGA_CAUSE_NOTE:
+        return "give-back note";
+    case EINFLYGA_CAUSE_OTHERS_BUS:
+        return "bus kept by the other channel";
+    case EINFLYGA_CAUSE_CA:
+        return "CA";
+    case EINFLYGA_CAUSE_SIP:
+        return "SIP";
+    case EINFLYGA_CAUSE_NAC:
+        return "NAC";
+    case EINFLYGA_CAUSE_MASKED:
+        return "masked with the line active";
+    case EINFLYGA_CAUSE_NO_REQUEST:
+        return "no request";
+    case EINFLYGA_CAUSE_ODD_CHAIN:
+        return "odd chain address";
+    case EINFLYGA_CAUSE_OPERATION:
+        return "operation not carried";
+    case EINFLYGA_CAUSE_ODD_WORD:
+        return "odd word address";
+    case EINFLYGA_CAUSE_OTHERS_TURN:
+        return "other channel's turn";
+    }
+    return "no such reason";
+}
 
 /* A run's last answer, as a step's. */
 static inline uint32_t einflyga_run_last(uint64_t answer) { return (uint32_t)answer; }

@@ -53,12 +53,26 @@ static void some_state(uint16_t *state) {
             state[channel + upper] &= 0xFF;
 }
 
+/* Why a channel stands still: refused exactly for another channel, and the words stay as they were, whatever they are. */
+static void look(uint16_t *state, size_t memory_length, size_t io_length) {
+    uint16_t before[EINFLYGA_WORDS];
+    uint32_t channel = random_number() % 4 + random_number() % 2 * 256;
+    memcpy(before, state, sizeof before);
+    uint32_t answer = einflyga_why(state, channel, memory_length, io_length);
+    bool is_channel = channel == 1 || channel == 2;
+    if ((is_channel ? answer & 0xFF : answer ^ EINFLYGA_NO_CHANNEL) != 0 || memcmp(before, state, sizeof before) != 0) {
+        fprintf(stderr, "a look at channel %u answered %X or changed the words\n", (unsigned)channel, (unsigned)answer);
+        exit(EXIT_FAILURE);
+    }
+}
+
 static void call_all(uint16_t *state, uint8_t *memory, size_t memory_length, uint8_t *io, size_t io_length) {
     einflyga_write_pointer(state, (uint16_t)random_number());
     einflyga_read_pointer(state);
     einflyga_read(state);
     einflyga_write(state, (uint16_t)random_number());
     einflyga_line(state, random_number() % 4, random_number() % 2);
+    look(state, memory_length, io_length);
     einflyga_acknowledge(state);
     einflyga_step(state, random_number() % 2, memory, memory_length, io, io_length);
     steps += einflyga_run_steps(einflyga_run(state, random_number() % 300, memory, memory_length, io, io_length));

@@ -85,6 +85,12 @@ static void transfer(void) {
     CHECK(einflyga_answer_refusal(einflyga_acknowledge(state)) == EINFLYGA_NOTHING_TO_ACKNOWLEDGE);
 }
 
+static const char *words_of_standstill(const uint16_t *state, uint32_t channel) {
+    uint32_t answer = einflyga_why(state, channel, MEMORY, 0);
+    CHECK(einflyga_answer_refusal(answer) == EINFLYGA_CARRIED_OUT);
+    return einflyga_cause_words(einflyga_why_cause(answer));
+}
+
 static void pointer_line_and_reset(void) {
     uint16_t state[EINFLYGA_WORDS];
 
@@ -159,8 +165,44 @@ static void search_marker(uint16_t match_control, uint16_t steps, uint16_t statu
     CHECK(read_at(state, EINFLYGA_PORT_STATUS(1)) == (EINFLYGA_STATUS_NAC | status));
 }
 
+/* Why channel 1 stands still, on the way to its first unit, each time in words. */
+static void standstill(void) {
+    static const enum einflyga_cause all[] = {
+        EINFLYGA_CAUSE_NOTHING_WRONG, EINFLYGA_CAUSE_DISABLED,   EINFLYGA_CAUSE_OTHERS_CHAIN, EINFLYGA_CAUSE_NOTE,
+        EINFLYGA_CAUSE_OTHERS_BUS,    EINFLYGA_CAUSE_CA,         EINFLYGA_CAUSE_SIP,          EINFLYGA_CAUSE_NAC,
+        EINFLYGA_CAUSE_MASKED,        EINFLYGA_CAUSE_NO_REQUEST, EINFLYGA_CAUSE_ODD_CHAIN,    EINFLYGA_CAUSE_OPERATION,
+        EINFLYGA_CAUSE_ODD_WORD,      EINFLYGA_CAUSE_OTHERS_TURN};
+    uint16_t state[EINFLYGA_WORDS], before[EINFLYGA_WORDS];
+    uint8_t memory[MEMORY] = {0};
+
+    einflyga_fresh(state);
+    CHECK(strcmp(words_of_standstill(state, 1), "disabled") == 0);
+    write_at(state, EINFLYGA_PORT_MASTER_MODE, EINFLYGA_MASTER_ENABLE);
+    CHECK(strcmp(words_of_standstill(state, 1), "CA") == 0);
+    program_transfer(state);
+    write_at(state, EINFLYGA_PORT_CHAIN_LOWER(1), 1);
+    CHECK(strcmp(words_of_standstill(state, 1), "odd chain address") == 0);
+    write_at(state, EINFLYGA_PORT_CHAIN_LOWER(1), 0);
+    CHECK(strcmp(words_of_standstill(state, 1), "nothing wrong") == 0);
+    CHECK(strcmp(words_of_standstill(state, 2), "CA") == 0);
+    CHECK(einflyga_step_kind(einflyga_step(state, false, memory, MEMORY, NULL, 0)) == EINFLYGA_FETCHED);
+    CHECK(strcmp(words_of_standstill(state, 2), "bus kept by the other channel") == 0);
+
+    memcpy(before, state, sizeof before);
+    CHECK(einflyga_answer_refusal(einflyga_why(state, 0, MEMORY, 0)) == EINFLYGA_NO_CHANNEL);
+    CHECK(einflyga_why(state, 257, MEMORY, 0) == EINFLYGA_NO_CHANNEL);
+    CHECK(memcmp(before, state, sizeof before) == 0);
+
+    /* Every reason has words of its own. */
+    for (size_t i = 0; i < sizeof all / sizeof *all; i++)
+        for (size_t j = 0; j < i; j++)
+            CHECK(strcmp(einflyga_cause_words(all[i]), einflyga_cause_words(all[j])) != 0);
+    CHECK(strcmp(einflyga_cause_words((enum einflyga_cause)13), "no such reason") == 0);
+}
+
 int main(void) {
     transfer();
+    standstill();
     pointer_line_and_reset();
     search_marker(EINFLYGA_MODE_HIGH_STOP_ON_MATCH, 3, EINFLYGA_STATUS_TC);
     search_marker(EINFLYGA_MODE_HIGH_STOP_ON_BYTE_MATCH, 2, EINFLYGA_STATUS_MCL | EINFLYGA_STATUS_MC);

@@ -168,6 +168,12 @@ fn go(advance: Advance, u: Controller, memory: &mut [u8], io: &mut [u8]) -> Cont
     }
 }
 
+// A look: nothing changes.
+fn why(c: u8, u: Controller, memory: &[u8], io: &[u8]) {
+    let answer = standstill::why(c as u32, space_board::lends(memory, io), u);
+    print::line(console_answer::why(c, answer));
+}
+
 // ---- a line
 
 fn poke(space: LentSpace, at: u32, n: usize, bytes: &[u8; 64], memory: &mut [u8], io: &mut [u8]) {
@@ -212,6 +218,10 @@ fn serve(
     match request {
         Request::Make(call) => make(call, u),
         Request::Advance(advance) => go(advance, u, memory, io),
+        Request::Why(c) => {
+            why(c, u, memory, io);
+            u
+        }
         Request::Poke(space, at, n) => {
             poke(space, at, n, bytes, memory, io);
             u

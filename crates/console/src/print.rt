@@ -33,7 +33,7 @@ pub fn state(u: Controller) {
 
 pub fn help() {
     let mut n: u8 = 0;
-    while n < 16 {
+    while n < 17 {
         line(console_message::help(n));
         n += 1;
     }

@@ -13,6 +13,10 @@ use Rattle.call_line.specs.declared.LineAnswer.{LineAnswer}
 use Rattle.call_line.specs.declared.LineAnswer.the-variants as level
 use Rattle.call_acknowledge.specs.declared.AckAnswer.{AckAnswer}
 use Rattle.call_acknowledge.specs.declared.AckAnswer.the-variants as ack
+use Rattle.standstill.specs.declared.Cause.{Cause}
+use Rattle.standstill.specs.declared.Cause.the-variants as cause
+use Rattle.standstill.specs.declared.WhyAnswer.{WhyAnswer}
+use Rattle.standstill.specs.declared.WhyAnswer.the-variants as standstill
 use Rattle.text_scan.specs.Words.{bytes}
 use Rattle.text_print.specs.Text.{_⧺_, hex4Of, decimalOf, channelOf}
 use Rattle.console_refusal.specs.Refusals.{refusalOf}
@@ -60,3 +64,24 @@ acknowledgeOf (ack.NoWord w) = bytes "acknowledged " ⧺ channelOf w
 
 unfoldable pub runOf : ℕ → Answer → List ℕ
 runOf steps a = bytes "ran " ⧺ decimalOf steps ⧺ bytes " " ⧺ answerOf a
+
+-- why a channel stands still, in document 02's words
+unfoldable pub causeOf : Cause → List ℕ
+causeOf cause.NothingWrong = bytes "nothing wrong"
+causeOf cause.Disabled = bytes "disabled"
+causeOf cause.ChainOnTheOther = bytes "chain under way on the other channel"
+causeOf cause.GiveBackNote = bytes "give-back note"
+causeOf cause.BusKeptByTheOther = bytes "bus kept by the other channel"
+causeOf cause.Ca = bytes "CA"
+causeOf cause.Sip = bytes "SIP"
+causeOf cause.Nac = bytes "NAC"
+causeOf cause.Masked = bytes "masked with the line active"
+causeOf cause.NoRequest = bytes "no request"
+causeOf cause.OddChain = bytes "odd chain address"
+causeOf cause.NotCarried = bytes "operation not carried"
+causeOf cause.OddWord = bytes "odd word address"
+causeOf cause.TurnOfTheOther = bytes "other channel's turn"
+
+unfoldable pub whyOf : ℕ → WhyAnswer → List ℕ
+whyOf c (standstill.Refused n) = refusalOf n
+whyOf c (standstill.Because r) = decimalOf c ⧺ bytes " " ⧺ causeOf r

@@ -3,12 +3,14 @@ ghost use mathlib.Core.Path.{_≡_};
 ghost use mathlib.Core.List.{_++_};
 ghost use Rattle.text_scan.specs.Words.{bytes};
 ghost use Rattle.text_print.specs.Text.{written, appended, line, channelOf};
-ghost use Rattle.console_answer.specs.Wording.{ifSo, reasonsOf, answerOf, writeOf, readOf, levelOf, lineOf, acknowledgeOf, runOf};
+ghost use Rattle.console_answer.specs.Wording.{ifSo, reasonsOf, answerOf, writeOf, readOf, levelOf, lineOf, acknowledgeOf, runOf, causeOf, whyOf};
 use call_acknowledge::AckAnswer;
 use call_command::Writing;
 use call_line::LineAnswer;
 use call_read::Reading;
 use port::Which;
+use standstill::Cause;
+use standstill::WhyAnswer;
 use step::Answer;
 use text_print::Text;
 use word_mode::Reasons;
@@ -112,4 +114,37 @@ pub fn run(steps: u32, a: Answer) -> Text
 {
     let t = text_print::of(b"ran ").decimal(steps as u64);
     answer(t.with(b" "), a)
+}
+
+fn cause(t: Text, why: Cause) -> Text
+    ensures { λ r. ⌜ written r ≡ appended (written t) (causeOf why) ⌝ }
+{
+    match why {
+        Cause::NothingWrong => t.with(b"nothing wrong"),
+        Cause::Disabled => t.with(b"disabled"),
+        Cause::ChainOnTheOther => t.with(b"chain under way on the other channel"),
+        Cause::GiveBackNote => t.with(b"give-back note"),
+        Cause::BusKeptByTheOther => t.with(b"bus kept by the other channel"),
+        Cause::Ca => t.with(b"CA"),
+        Cause::Sip => t.with(b"SIP"),
+        Cause::Nac => t.with(b"NAC"),
+        Cause::Masked => t.with(b"masked with the line active"),
+        Cause::NoRequest => t.with(b"no request"),
+        Cause::OddChain => t.with(b"odd chain address"),
+        Cause::NotCarried => t.with(b"operation not carried"),
+        Cause::OddWord => t.with(b"odd word address"),
+        Cause::TurnOfTheOther => t.with(b"other channel's turn"),
+    }
+}
+
+pub fn why(c: u8, a: WhyAnswer) -> Text
+    ensures { λ r. ⌜ written r ≡ line (whyOf c a) ⌝ }
+{
+    match a {
+        WhyAnswer::Refused(n) => console_refusal::refusal(text_print::empty(), n),
+        WhyAnswer::Because(why) => {
+            let t = text_print::empty().decimal(c as u64);
+            cause(t.with(b" "), why)
+        }
+    }
 }

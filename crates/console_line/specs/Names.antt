@@ -12,7 +12,8 @@ named s (e ∷ es) = cond (sameOf s (e .0)) (e .1) (named s es)
 
 abbrev pub benchNames : List (List ℕ × Name)
 benchNames =
-    (bytes "peek", name.Peek)
+    (bytes "why", name.Why)
+    ∷ (bytes "peek", name.Peek)
     ∷ (bytes "state", name.State)
     ∷ (bytes "help", name.Help)
     ∷ []

@@ -63,6 +63,9 @@ stepOf s =
 unfoldable pub runOf : List ℕ → Request
 runOf s = withNumber (numberOf Ten (firstOf s)) (λ n. lastOf (restOf s) (request.Advance (advance.Run n)))
 
+unfoldable pub whyOf : List ℕ → Request
+whyOf s = withNumber (upTo255 (numberOf Ten (firstOf s))) (λ c. lastOf (restOf s) (request.Why (c % 256)))
+
 -- the most bytes that are lent
 unfoldable pub limitOf : LentSpace → ℕ
 limitOf space.Memory = 1048576
@@ -156,6 +159,7 @@ askOf name.Line s = lineOf s
 askOf name.Acknowledge s = lastOf s (request.Make call.Acknowledge)
 askOf name.Step s = stepOf s
 askOf name.Run s = runOf s
+askOf name.Why s = whyOf s
 askOf name.Peek s = peekOf s
 askOf name.State s = lastOf s request.State
 askOf name.Help s = lastOf s request.Help

@@ -2,7 +2,7 @@
 ghost use mathlib.Core.Path.{_≡_};
 ghost use Rattle.console_line.specs.Names.{named, names, otherNames, benchNames};
 ghost use Prim.Native.Nat.{_%_};
-ghost use Rattle.console_line.specs.Reading.{lastOf, pointerOf, writeOf, setOf, getOf, levelOf, lineOf, stepOf, runOf, limitOf, lendOf, spaceOf, peekOf, filled, bytesFrom, asked, pokeOf, askOf, taken, readOf};
+ghost use Rattle.console_line.specs.Reading.{lastOf, pointerOf, writeOf, setOf, getOf, levelOf, lineOf, stepOf, runOf, whyOf, limitOf, lendOf, spaceOf, peekOf, filled, bytesFrom, asked, pokeOf, askOf, taken, readOf};
 use text_scan::Number;
 
 // ---- what the first word of a line names
@@ -19,6 +19,7 @@ pub enum Name {
     Acknowledge,
     Step,
     Run,
+    Why,
     Peek,
     State,
     Help,
@@ -70,6 +71,9 @@ fn name_of_other_call(s: &[u8]) -> Name
 fn name_at_the_bench(s: &[u8]) -> Name
     ensures { λ r. ⌜ r ≡ named (now (s .entry)) benchNames ⌝ }
 {
+    if text_scan::same(s, b"why") {
+        return Name::Why;
+    }
     if text_scan::same(s, b"peek") {
         return Name::Peek;
     }
@@ -122,6 +126,7 @@ pub enum Request {
     TooLarge,
     Make(RegisterCall),
     Advance(Advance),
+    Why(u8),
     Poke(LentSpace, u32, usize),
     Peek(LentSpace, u32, u32),
     State,
@@ -259,6 +264,15 @@ fn run(s: &[u8]) -> Request
     last(text_scan::rest(s), Request::Advance(Advance::Run(n)))
 }
 
+fn why(s: &[u8]) -> Request
+    ensures { λ r. ⌜ r ≡ whyOf (now (s .entry)) ⌝ }
+{
+    let Number::Of(c) = text_scan::channel(text_scan::first(s)) else {
+        return Request::Unreadable;
+    };
+    last(text_scan::rest(s), Request::Why(low_byte(c)))
+}
+
 fn limit(space: LentSpace) -> u32
     ensures { λ r. ⌜ r ≡ limitOf space ⌝ }
 {
@@ -375,6 +389,7 @@ fn ask(name: Name, s: &[u8]) -> Request
         Name::Acknowledge => last(s, Request::Make(RegisterCall::Acknowledge)),
         Name::Step => step(s),
         Name::Run => run(s),
+        Name::Why => why(s),
         Name::Peek => peek(s),
         Name::State => last(s, Request::State),
         Name::Help => last(s, Request::Help),

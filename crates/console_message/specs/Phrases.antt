@@ -47,21 +47,22 @@ calls =
     ∷ (7, bytes "line C active|inactive       set the level of channel C's request line")
     ∷ (8, bytes "acknowledge                  acknowledge an interrupt")
     ∷ (9, bytes "step [eop]                   make one step, with EOP given or not")
+    ∷ (10, bytes "run N                        make up to N steps, at most 65536")
     ∷ []
 
 unfoldable pub helpOnCalls : ℕ → List ℕ
-helpOnCalls n = look (bytes "run N                        make up to N steps, at most 65536") n calls
+helpOnCalls n = look (bytes "why C                        say why channel C stands still") n calls
 
 abbrev pub bench : List (ℕ × List ℕ)
 bench =
-    (11, bytes "memory N, io N               lend N bytes of 00 anew")
-    ∷ (12, bytes "poke memory|io AAAAAA HH ..  store 1 to 64 bytes from an address on")
-    ∷ (13, bytes "peek memory|io AAAAAA N      show N bytes from an address on")
-    ∷ (14, bytes "state                        show all that the controller holds")
+    (12, bytes "memory N, io N               lend N bytes of 00 anew")
+    ∷ (13, bytes "poke memory|io AAAAAA HH ..  store 1 to 64 bytes from an address on")
+    ∷ (14, bytes "peek memory|io AAAAAA N      show N bytes from an address on")
+    ∷ (15, bytes "state                        show all that the controller holds")
     ∷ []
 
 unfoldable pub helpOnTheBench : ℕ → List ℕ
 helpOnTheBench n = look (bytes "help                         show this list") n bench
 
 unfoldable pub helpOf : ℕ → List ℕ
-helpOf n = cond (ltb n 11) (helpOnCalls n) (helpOnTheBench n)
+helpOf n = cond (ltb n 12) (helpOnCalls n) (helpOnTheBench n)

@@ -72,7 +72,7 @@ pub fn too_large(number: u64) -> Text
     t.with(b" too large")
 }
 
-// ---- the help, in sixteen lines
+// ---- the help, in seventeen lines
 
 fn help_on_calls(t: Text, n: u8) -> Text
     ensures { λ r. ⌜ written r ≡ appended (written t) (helpOnCalls n) ⌝ }
@@ -88,7 +88,8 @@ fn help_on_calls(t: Text, n: u8) -> Text
         7 => t.with(b"line C active|inactive       set the level of channel C's request line"),
         8 => t.with(b"acknowledge                  acknowledge an interrupt"),
         9 => t.with(b"step [eop]                   make one step, with EOP given or not"),
-        _ => t.with(b"run N                        make up to N steps, at most 65536"),
+        10 => t.with(b"run N                        make up to N steps, at most 65536"),
+        _ => t.with(b"why C                        say why channel C stands still"),
     }
 }
 
@@ -96,10 +97,10 @@ fn help_on_the_bench(t: Text, n: u8) -> Text
     ensures { λ r. ⌜ written r ≡ appended (written t) (helpOnTheBench n) ⌝ }
 {
     match n {
-        11 => t.with(b"memory N, io N               lend N bytes of 00 anew"),
-        12 => t.with(b"poke memory|io AAAAAA HH ..  store 1 to 64 bytes from an address on"),
-        13 => t.with(b"peek memory|io AAAAAA N      show N bytes from an address on"),
-        14 => t.with(b"state                        show all that the controller holds"),
+        12 => t.with(b"memory N, io N               lend N bytes of 00 anew"),
+        13 => t.with(b"poke memory|io AAAAAA HH ..  store 1 to 64 bytes from an address on"),
+        14 => t.with(b"peek memory|io AAAAAA N      show N bytes from an address on"),
+        15 => t.with(b"state                        show all that the controller holds"),
         _ => t.with(b"help                         show this list"),
     }
 }
@@ -107,7 +108,7 @@ fn help_on_the_bench(t: Text, n: u8) -> Text
 pub fn help(n: u8) -> Text
     ensures { λ r. ⌜ written r ≡ line (helpOf n) ⌝ }
 {
-    if n < 11 {
+    if n < 12 {
         return help_on_calls(text_print::empty(), n);
     }
     help_on_the_bench(text_print::empty(), n)

@@ -4,7 +4,8 @@ ghost use Rattle.space.specs.Space.{spaces};
 ghost use Rattle.host_state.specs.Load.{stateOf};
 ghost use Rattle.host_answer.specs.Numbers.{readNumber};
 ghost use Rattle.call_read.specs.Reading.{readOf};
-ghost use Rattle.host.specs.Calls.{returned, crossed, isRefusal, wordsAfter, freshLeft, resetLeft, pointedLeft, writtenLeft, linedLeft, acknowledgedLeft, steppedLeft, ranLeft};
+ghost use Rattle.host.specs.Calls.{returned, crossed, isRefusal, wordsAfter, freshLeft, resetLeft, pointedLeft, writtenLeft, linedLeft, acknowledgedLeft, steppedLeft, ranLeft, whyAnswered};
+use space_board::Board;
 use step::Controller;
 
 fn is_refusal(number: u64) -> bool
@@ -142,4 +143,14 @@ pub extern "C" fn einflyga_run(
     let number = host_answer::run_number(ran.steps, answer);
     store_unless_refused(state, number, next);
     number
+}
+
+// A look: of the spaces it asks for the lengths alone.
+#[no_mangle]
+pub extern "C" fn einflyga_why(state: &[u16; 72], channel: u32, memory: usize, io: usize) -> u32
+    ensures { λ r. ⌜ r ≡ whyAnswered channel (record { memory = memory; io = io }) (now (state .entry)) ⌝ }
+{
+    let entry = *state;
+    let u = host_state::load(entry);
+    host_answer::why_number(standstill::why(channel, Board { memory, io }, u))
 }

@@ -15,6 +15,9 @@ use Rattle.call_line.specs.declared.LineAnswer.{LineAnswer}
 use Rattle.call_acknowledge.specs.declared.AckAnswer.{AckAnswer}
 use Rattle.call_acknowledge.specs.declared.AckAnswer.the-variants as ack
 use Rattle.call_line.specs.Answers.{paperLine}
+use Rattle.standstill.specs.declared.WhyAnswer.{WhyAnswer}
+use Rattle.standstill.specs.declared.WhyAnswer.the-variants as standstill
+use Rattle.standstill.specs.Answers.{causeNumber}
 use Rattle.facts.specs.Bits.{bitIf}
 
 -- The upper half of a unit's answer: the channel, and the end reasons TC, MC, EOP from bit 8 up.
@@ -61,3 +64,8 @@ abbrev pub ackNumber : AckAnswer → ℕ
 ackNumber (ack.Refused n) = n
 ackNumber (ack.Word w v) = packed (wordKind w) v
 ackNumber (ack.NoWord w) = packed (channelNumber w) 0
+
+-- Bits 15-8 why the channel stands still, 0 being nothing wrong.
+abbrev pub whyNumber : WhyAnswer → ℕ
+whyNumber (standstill.Refused n) = n
+whyNumber (standstill.Because r) = packed (causeNumber r) 0

@@ -1,12 +1,15 @@
 // Each answer as one number, for a host in another language.
 ghost use mathlib.Core.Path.{_≡_};
 ghost use Rattle.step.specs.Answers.{channelNumber};
-ghost use Rattle.host_answer.specs.Numbers.{unitHalf, wordKind, stepNumber, runNumber, readNumber, writeNumber, lineNumber, ackNumber, packed};
+ghost use Rattle.standstill.specs.Answers.{causeNumber};
+ghost use Rattle.host_answer.specs.Numbers.{unitHalf, wordKind, stepNumber, runNumber, readNumber, writeNumber, lineNumber, ackNumber, whyNumber, packed};
 use call_acknowledge::AckAnswer;
 use call_command::Writing;
 use call_line::LineAnswer;
 use call_read::Reading;
 use port::Which;
+use standstill::Cause;
+use standstill::WhyAnswer;
 use step::Answer;
 use step_bus::Back;
 use word_mode::Reasons;
@@ -107,5 +110,36 @@ pub fn ack_number(a: AckAnswer) -> u32
         AckAnswer::Refused(n) => n as u32,
         AckAnswer::Word(w, v) => pack(word_kind(w), v),
         AckAnswer::NoWord(w) => pack(channel_number(w), 0),
+    }
+}
+
+// 13 to 15 are left for the reasons of later requests.
+fn cause_number(c: Cause) -> u8
+    ensures { λ r. ⌜ r ≡ causeNumber c ⌝ }
+{
+    match c {
+        Cause::NothingWrong => 0,
+        Cause::Disabled => 1,
+        Cause::ChainOnTheOther => 2,
+        Cause::GiveBackNote => 3,
+        Cause::BusKeptByTheOther => 4,
+        Cause::Ca => 5,
+        Cause::Sip => 6,
+        Cause::Nac => 7,
+        Cause::Masked => 8,
+        Cause::NoRequest => 9,
+        Cause::OddChain => 10,
+        Cause::NotCarried => 11,
+        Cause::OddWord => 12,
+        Cause::TurnOfTheOther => 16,
+    }
+}
+
+pub fn why_number(a: WhyAnswer) -> u32
+    ensures { λ r. ⌜ r ≡ whyNumber a ⌝ }
+{
+    match a {
+        WhyAnswer::Refused(n) => n as u32,
+        WhyAnswer::Because(c) => pack(cause_number(c), 0),
     }
 }

@@ -24,11 +24,14 @@ use Rattle.call_write.specs.Writing.{writeOf}
 use Rattle.call_line.specs.Answers.{paperLine}
 use Rattle.call_line.specs.Lines.{linedAt}
 use Rattle.call_run.specs.Run.{runOf}
+use Rattle.space_board.specs.Board.{boardOf}
+use Rattle.standstill.specs.Causes.{whyAt}
+use Rattle.standstill.specs.Answers.{paperWhy}
 use Rattle.promises.specs.Machine.{Machine, left, step}
-use Rattle.promises.specs.Calls.{Call, only, word-told, ack-told, step-told, run-outcome, call}
+use Rattle.promises.specs.Calls.{Call, only, word-told, ack-told, step-told, why-told, run-outcome, call}
 use Rattle.promises.specs.Demand1.{stepTable, provided, runTable, table, Demand1}
 use Rattle.promises.specs.Running.{Whole, Stopped}
-use Rattle.promises.proofs.Refusals.{read-refused, write-refused, line-refused, ack-refused, step-refused}
+use Rattle.promises.proofs.Refusals.{read-refused, write-refused, line-refused, ack-refused, step-refused, why-refused}
 use Rattle.promises.proofs.Running as running
 
 -- a refused step's answer has its number and nothing else
@@ -106,46 +109,54 @@ module _ (budget : ℕ) (m : Machine) where
 
 pub demand1 : (c : Call) (m : Machine) → Demand1 c m
 unfolding call
-demand1 Call.reset m = record { refusals = exactly 0 [] refl; keeps = λ h. absurd (h refl); nothing = λ h. absurd (h refl) }
-demand1 (Call.write-pointer w) m = record { refusals = exactly 0 [] refl; keeps = λ h. absurd (h refl); nothing = λ h. absurd (h refl) }
-demand1 Call.read-pointer m = record { refusals = exactly 0 [] refl; keeps = λ h. absurd (h refl); nothing = λ h. absurd (h refl) }
+demand1 Call.reset m = record { refusals = exactly 0 0 [] refl; keeps = λ h. absurd (h refl); nothing = λ h. absurd (h refl) }
+demand1 (Call.write-pointer w) m = record { refusals = exactly 0 0 [] refl; keeps = λ h. absurd (h refl); nothing = λ h. absurd (h refl) }
+demand1 Call.read-pointer m = record { refusals = exactly 0 0 [] refl; keeps = λ h. absurd (h refl); nothing = λ h. absurd (h refl) }
 demand1 (Call.write w) m =
     let l = write-refused w (m .controller) in
     record {
-      refusals = exactly (paperWrite (writeOf w (m .controller) .answer)) (table (Call.write w) m) (l .number);
+      refusals = exactly 0 (paperWrite (writeOf w (m .controller) .answer)) (table (Call.write w) m) (l .number);
       keeps = λ h. ap (λ (u : Controller). record { controller = u; spaces = m .spaces }) (l .nothing h);
       nothing = λ h. refl;
     }
 demand1 Call.read m =
     let l = read-refused (m .controller) in
     record {
-      refusals = exactly (paperRead (readOf (m .controller)) .number) (table Call.read m) (l .0);
+      refusals = exactly 0 (paperRead (readOf (m .controller)) .number) (table Call.read m) (l .0);
       keeps = λ h. refl;
       nothing = λ h. ap (λ (v : ℕ). word-told (record { number = paperRead (readOf (m .controller)) .number; word = v })) (l .1 h);
     }
 demand1 (Call.line n active) m =
     let l = line-refused n active (m .controller) in
     record {
-      refusals = exactly (paperLine (linedAt n active (m .controller) .answer)) (table (Call.line n active) m) (l .0);
+      refusals = exactly 0 (paperLine (linedAt n active (m .controller) .answer)) (table (Call.line n active) m) (l .0);
       keeps = λ h. ap (λ (u : Controller). record { controller = u; spaces = m .spaces }) (l .1 h);
       nothing = λ h. refl;
     }
 demand1 Call.acknowledge m =
     let l = ack-refused (m .controller) in
     record {
-      refusals = exactly (paperAck (acknowledgeOf (m .controller) .answer) .number) (table Call.acknowledge m) (l .0);
+      refusals = exactly 0 (paperAck (acknowledgeOf (m .controller) .answer) .number) (table Call.acknowledge m) (l .0);
       keeps = λ h. ap (λ (u : Controller). record { controller = u; spaces = m .spaces }) (l .1 h .0);
       nothing = λ h. ap ack-told (l .1 h .1);
     }
 demand1 (Call.step eop) m =
     let l = step-refused eop (m .controller) (m .spaces) in
     record {
-      refusals = exactly (paper (stepOf eop (m .controller) (m .spaces) .stepped .answer) .number) (table (Call.step eop) m) (l .0);
+      refusals = exactly 0 (paper (stepOf eop (m .controller) (m .spaces) .stepped .answer) .number) (table (Call.step eop) m) (l .0);
       keeps = λ h. ap left (l .1 h);
       nothing = λ h. told-only (stepOf eop (m .controller) (m .spaces)) 0 _ _ _ (l .1 h);
     }
 demand1 (Call.run budget) m = record {
-  refusals = exactly (number budget m) (table (Call.run budget) m) (run-number budget m (ltb 65536 budget) refl);
+  refusals = exactly 0 (number budget m) (table (Call.run budget) m) (run-number budget m (ltb 65536 budget) refl);
   keeps = λ h. run-keeps budget m (ltb 65536 budget) refl h .0;
   nothing = λ h. run-keeps budget m (ltb 65536 budget) refl h .1;
 }
+demand1 (Call.why n) m =
+    let k = boardOf (m .spaces) in
+    let l = why-refused n k (m .controller) in
+    record {
+      refusals = exactly 0 (paperWhy (whyAt n k (m .controller)) .number) (table (Call.why n) m) (l .0);
+      keeps = λ h. refl;
+      nothing = λ h. ap (λ (x : ℕ). why-told (record { number = paperWhy (whyAt n k (m .controller)) .number; cause = x })) (l .1 h);
+    }

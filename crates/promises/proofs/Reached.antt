@@ -38,6 +38,7 @@ call-well (Call.line n active) u z h = line-well u h n active
 call-well Call.acknowledge u z h = acknowledge-well u h
 call-well (Call.step eop) u z h = step-well u h eop z
 call-well (Call.run budget) u z h = run-well budget u z h
+call-well (Call.why n) u z h = h
 
 calls-well : (cs : List (Call × Spaces)) (u : Controller) → WellFormed u → WellFormed (afterCalls cs u)
 unfolding afterCalls

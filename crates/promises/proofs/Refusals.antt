@@ -31,7 +31,10 @@ use Rattle.step.specs.Answers.{paper}
 use Rattle.step.specs.Controller.{at}
 use Rattle.call_acknowledge.proofs.Laws.{refused-keeps}
 use Rattle.facts.specs.First.{firstOf}
+use Rattle.space_board.specs.declared.Board.{Board}
 use Rattle.space_board.specs.Board.{boardOf}
+use Rattle.standstill.specs.Causes.{whyAt}
+use Rattle.standstill.specs.Answers.{paperWhy}
 use Rattle.step_rules.specs.Rules.{refusals}
 use Rattle.step_rules.proofs.View.{Intends, intended}
 use Rattle.step_rules.proofs.View.Intends.{disabled, goes-on, noted, keeps, holds, releases, begins-chain, begins-unit, idle}
@@ -52,7 +55,7 @@ use Rattle.call_line.specs.Lines.{linedAt}
 use Rattle.call_acknowledge.specs.Acknowledge.{interrupts, isVectorless, answered, acknowledgedAt, acknowledgeBy, acknowledgeOf}
 use Rattle.call_line.specs.Answers.{paperLine}
 use Rattle.call_acknowledge.specs.Answers.{paperAck}
-use Rattle.promises.specs.Demand1.{readTable, kindOf, writeTable, lineTable, ackTable, stepTable}
+use Rattle.promises.specs.Demand1.{readTable, kindOf, writeTable, channelTable, ackTable, stepTable}
 
 read-looks : (p : ReadPort) (u : Controller)
     → (paperRead (readBy p u) .number ≡ firstOf (readTable p)) × (paperRead (readBy p u) .number ≢ 0 → paperRead (readBy p u) .word ≡ 0)
@@ -128,8 +131,19 @@ line-number false true n active u ea eb = rw (ea, eb) (refl, λ h. absurd (h ref
 line-number false false n active u ea eb = rw (ea, eb) (refl, λ h. refl)
 
 pub line-refused : (n : ℕ) (active : Bool) (u : Controller)
-    → (paperLine (linedAt n active u .answer) ≡ firstOf (lineTable n)) × (paperLine (linedAt n active u .answer) ≢ 0 → linedAt n active u .state ≡ u)
+    → (paperLine (linedAt n active u .answer) ≡ firstOf (channelTable n)) × (paperLine (linedAt n active u .answer) ≢ 0 → linedAt n active u .state ≡ u)
 line-refused n active u = line-number (eqb n 1) (eqb n 2) n active u refl refl
+
+why-number : (a b : Bool) (n : ℕ) (k : Board) (u : Controller) → eqb n 1 ≡ a → eqb n 2 ≡ b
+    → (paperWhy (whyAt n k u) .number ≡ firstOf ((not (a || b), 10) ∷ [])) × (paperWhy (whyAt n k u) .number ≢ 0 → paperWhy (whyAt n k u) .cause ≡ 0)
+unfolding whyAt look
+why-number true b n k u ea eb = rw ea (refl, λ h. absurd (h refl))
+why-number false true n k u ea eb = rw (ea, eb) (refl, λ h. absurd (h refl))
+why-number false false n k u ea eb = rw (ea, eb) (refl, λ h. refl)
+
+pub why-refused : (n : ℕ) (k : Board) (u : Controller)
+    → (paperWhy (whyAt n k u) .number ≡ firstOf (channelTable n)) × (paperWhy (whyAt n k u) .number ≢ 0 → paperWhy (whyAt n k u) .cause ≡ 0)
+why-refused n k u = why-number (eqb n 1) (eqb n 2) n k u refl refl
 
 answered-number : (b : Bool) (w : Which) (c : Channel) → paperAck (answered b w c) .number ≡ 0
 answered-number true w c = refl

@@ -1,4 +1,4 @@
--- The calls of document 01, and what each leaves and answers, by the definitions that the contracts cite. Assumes nothing.
+-- The calls of document 01 and of the requests, and what each leaves and answers, by the definitions that the contracts cite. Assumes nothing.
 use Prim.Native.Nat.{ℕ}
 use mathlib.Core.Bool.{Bool, false}
 use mathlib.Core.List.{List, [], _∷_}
@@ -19,10 +19,13 @@ use Rattle.call_acknowledge.specs.declared.Acknowledged.{Acknowledged}
 use Rattle.call_acknowledge.specs.Acknowledge.{acknowledgeOf}
 use Rattle.call_acknowledge.specs.Answers.{PaperAck, paperAck}
 use Rattle.call_run.specs.Run.{runOf}
+use Rattle.space_board.specs.Board.{boardOf}
+use Rattle.standstill.specs.Causes.{whyAt}
+use Rattle.standstill.specs.Answers.{PaperWhy, paperWhy}
 use Rattle.promises.specs.Machine.{Machine, left}
 
 -- The host may call: reset; pointer write and read; register write and read; request-line level for a channel; interrupt acknowledge; step (with
--- EOP given or not); run of up to 65,536 steps without EOP.
+-- EOP given or not); run of up to 65,536 steps without EOP. And why a channel stands still (document 02, E4).
 pub data Call : Type 0 where
   reset : Call
   write-pointer : ℕ → Call
@@ -33,9 +36,10 @@ pub data Call : Type 0 where
   acknowledge : Call
   step : Bool → Call
   run : ℕ → Call
+  why : ℕ → Call
 
 -- What a call answers, as document 01 gives it: the refusal number or 0; a channel or 0; end reasons; whether a word is given; the word or 0;
--- and of a run how many steps came before the one that it answers.
+-- of a run how many steps came before the one that it answers; and why a channel stands still, 0 being nothing wrong.
 pub record Told : Type 0 where
   pub number : ℕ
   pub channel : ℕ
@@ -43,19 +47,23 @@ pub record Told : Type 0 where
   pub given : Bool
   pub word : ℕ
   pub steps : ℕ
+  pub cause : ℕ
 
 -- every value is 0 but the number, and a run's steps
 abbrev pub only : ℕ → ℕ → Told
-only n k = record { number = n; channel = 0; why = none; given = false; word = 0; steps = k }
+only n k = record { number = n; channel = 0; why = none; given = false; word = 0; steps = k; cause = 0 }
 
 abbrev pub word-told : PaperRead → Told
-word-told p = record { number = p .number; channel = 0; why = none; given = false; word = p .word; steps = 0 }
+word-told p = record { number = p .number; channel = 0; why = none; given = false; word = p .word; steps = 0; cause = 0 }
 
 abbrev pub ack-told : PaperAck → Told
-ack-told p = record { number = p .number; channel = p .channel; why = none; given = p .given; word = p .word; steps = 0 }
+ack-told p = record { number = p .number; channel = p .channel; why = none; given = p .given; word = p .word; steps = 0; cause = 0 }
 
 abbrev pub step-told : Paper → ℕ → Told
-step-told p k = record { number = p .number; channel = p .channel; why = p .why; given = false; word = 0; steps = k }
+step-told p k = record { number = p .number; channel = p .channel; why = p .why; given = false; word = 0; steps = k; cause = 0 }
+
+abbrev pub why-told : PaperWhy → Told
+why-told p = record { number = p .number; channel = 0; why = none; given = false; word = 0; steps = 0; cause = p .cause }
 
 -- ---- the outcome of a call: its answer and the machine after it
 
@@ -88,6 +96,7 @@ call (line n active) m = line-outcome m (linedAt n active (m .controller))
 call acknowledge m = ack-outcome m (acknowledgeOf (m .controller))
 call (step eop) m = step-outcome (stepOf eop (m .controller) (m .spaces))
 call (run budget) m = run-outcome (runOf budget (m .controller) (m .spaces))
+call (why n) m = record { told = why-told (paperWhy (whyAt n (boardOf (m .spaces)) (m .controller))); after = m }
 
 -- ---- a stretch: steps without EOP, and between them request-line calls for either channel, pointer writes and reads, and register reads
 

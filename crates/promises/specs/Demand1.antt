@@ -62,8 +62,8 @@ writeTable (writes.Of k r) w u = (isBusy u, 2) ∷ []
 writeTable writes.Nowhere w u = (true, 1) ∷ []
 
 -- 10: channel other than 1 or 2
-abbrev pub lineTable : ℕ → List (Bool × ℕ)
-lineTable n = (not (eqb n 1 || eqb n 2), 10) ∷ []
+abbrev pub channelTable : ℕ → List (Bool × ℕ)
+channelTable n = (not (eqb n 1 || eqb n 2), 10) ∷ []
 
 -- 9: nothing to acknowledge
 abbrev pub ackTable : Controller → List (Bool × ℕ)
@@ -94,14 +94,15 @@ table (Call.write-pointer w) m = []
 table Call.read-pointer m = []
 table (Call.write w) m = writeTable (writePort (m .controller .pointer)) w (m .controller)
 table Call.read m = readTable (readPort (m .controller .pointer))
-table (Call.line n active) m = lineTable n
+table (Call.line n active) m = channelTable n
 table Call.acknowledge m = ackTable (m .controller)
 table (Call.step eop) m = stepTable (m .controller) (m .spaces)
 table (Call.run budget) m = runTable budget m
+table (Call.why n) m = channelTable n
 
 pub record Demand1 (c : Call) (m : Machine) : Type 0 where
   -- the number is the first of the table whose condition holds, or 0; each is given if and only if its condition holds and no earlier one does
-  pub refusals : Exactly (call c m .told .number) (table c m)
+  pub refusals : Exactly 0 (call c m .told .number) (table c m)
   -- a refused call leaves the machine as it was; a run that a step stops leaves what the steps before it left
   pub keeps : call c m .told .number ≢ 0 → call c m .after ≡ iter step (call c m .told .steps) m
   -- every value is 0; a run counts the steps before the refused one, and no other call counts any

@@ -14,6 +14,7 @@ use Rattle.call_line.proofs.line.Reads as line
 use Rattle.call_acknowledge.proofs.acknowledge.Reads as acknowledge
 use Rattle.step.proofs.Controller.step.Reads as step
 use Rattle.call_run.proofs.run.Reads as run
+use Rattle.standstill.proofs.why.Reads as why
 use Rattle.host.proofs.einflyga_fresh.Reads as einflyga-fresh
 use Rattle.host.proofs.einflyga_reset.Reads as einflyga-reset
 use Rattle.host.proofs.einflyga_write_pointer.Reads as einflyga-write-pointer
@@ -24,13 +25,14 @@ use Rattle.host.proofs.einflyga_line.Reads as einflyga-line
 use Rattle.host.proofs.einflyga_acknowledge.Reads as einflyga-acknowledge
 use Rattle.host.proofs.einflyga_step.Reads as einflyga-step
 use Rattle.host.proofs.einflyga_run.Reads as einflyga-run
+use Rattle.host.proofs.einflyga_why.Reads as einflyga-why
 use Rattle.promises_outcome.specs.Outcome.{Decided}
 
 -- the argument, once: both are what the definition gives
 both : {A : Type 0} {x y d : A} → x ≡ d → y ≡ d → x ≡ y
 both p q = p ∙ sym q
 
--- ---- document 01's calls: what they return is the answer and the state
+-- ---- document 01's calls, and why: what they return is the answer and the state
 
 pub fresh-decided : Decided fresh.Post (λ κs r x. r)
 fresh-decided κs a r s x y p q = both p q
@@ -61,6 +63,9 @@ step-decided κs a r s x y p q = both p q
 
 pub run-decided : Decided run.Post (λ κs r x. ranAs r (spaces (x .1 .1 .0 .now) (x .1 .1 .1 .0 .now)))
 run-decided κs a r s x y p q = both p q
+
+pub why-decided : Decided why.Post (λ κs r x. r)
+why-decided κs a r s x y p q = both p q
 
 -- ---- the exported calls
 
@@ -93,3 +98,6 @@ einflyga-step-decided κs a r s x y p q = both p q
 
 pub einflyga-run-decided : Decided einflyga-run.Post (λ κs r x. crossed r (x .0 .now) (spaces (x .1 .1 .0 .now) (x .1 .1 .1 .0 .now)))
 einflyga-run-decided κs a r s x y p q = both p q
+
+pub einflyga-why-decided : Decided einflyga-why.Post (λ κs r x. r)
+einflyga-why-decided κs a r s x y p q = both p q

@@ -47,9 +47,13 @@ use Rattle.call_acknowledge.specs.declared.AckAnswer.the-variants as ack
 use Rattle.call_acknowledge.specs.Acknowledge.{acknowledgeOf}
 use Rattle.call_acknowledge.specs.Answers.{paperAck}
 use Rattle.call_run.specs.Run.{runOf}
+use Rattle.standstill.specs.declared.WhyAnswer.{WhyAnswer}
+use Rattle.standstill.specs.declared.WhyAnswer.the-variants as standstill
+use Rattle.standstill.specs.Causes.{whyAt}
+use Rattle.standstill.specs.Answers.{causeNumber, paperWhy}
 use Rattle.host_state.specs.Load.{stateOf}
-use Rattle.host_answer.specs.Numbers.{unitHalf, packed, stepNumber, runNumber, readNumber, wordKind, ackNumber}
-use Rattle.host.specs.Calls.{isRefusal, wordsAfter, writtenLeft, linedLeft, acknowledgedLeft, steppedLeft, ranLeft}
+use Rattle.host_answer.specs.Numbers.{unitHalf, packed, stepNumber, runNumber, readNumber, wordKind, ackNumber, whyNumber}
+use Rattle.host.specs.Calls.{isRefusal, wordsAfter, writtenLeft, linedLeft, acknowledgedLeft, steppedLeft, ranLeft, whyAnswered}
 use Rattle.unit_laws.specs.Machine.{iter}
 
 -- ---- document 01's numbers are bytes
@@ -66,7 +70,7 @@ first-byte (x ∷ es) h = go (x .0) (first-byte es (h .1))
     go true f = h .0
     go false f = f
 
-byte : (n : ℕ) (t : List (Bool × ℕ)) → Exactly n t → ByteRows t → n < 256
+byte : (n : ℕ) (t : List (Bool × ℕ)) → Exactly 0 n t → ByteRows t → n < 256
 byte n t e h = subst (λ (k : ℕ). k < 256) (sym (e .is)) (first-byte t h)
 
 step-bytes : (c : Choice) (b : Board) (u : Controller) → ByteRows (refusals c (faultsOf b u))
@@ -106,6 +110,7 @@ table-bytes (Call.write w) m = write-bytes (writePort (m .controller .pointer)) 
 table-bytes Call.read m = read-bytes (readPort (m .controller .pointer))
 table-bytes (Call.line n active) m = (omega arith, refl)
 table-bytes Call.acknowledge m = (omega arith, refl)
+table-bytes (Call.why n) m = (omega arith, refl)
 table-bytes (Call.step eop) m = step-bytes (intentOf (factsOf (m .controller))) (boardOf (m .spaces)) (m .controller)
 table-bytes (Call.run budget) m =
     let last = iter step (stepsOf budget m) m in (
@@ -137,6 +142,10 @@ ack-says : (a : AckAnswer) → paperAck a .number < 256 → Says (ackNumber a) (
 ack-says (ack.Refused n) h = number-says n h
 ack-says (ack.Word w v) h = packed-says (wordKind w) v
 ack-says (ack.NoWord w) h = packed-says (channelNumber w) 0
+
+why-says : (a : WhyAnswer) → paperWhy a .number < 256 → Says (whyNumber a) (paperWhy a .number)
+why-says (standstill.Refused n) h = number-says n h
+why-says (standstill.Because r) h = packed-says (causeNumber r) 0
 
 step-says : (a : Answer) → paper a .number < 256 → Says (stepNumber a) (paper a .number)
 step-says (Refused n) h = number-says n h
@@ -222,7 +231,7 @@ spaces-stay : (c : Call) (m : Machine) → call c m .told .number ≢ 0 → call
 spaces-stay c m q none = ap (λ (x : Machine). x .spaces) (demand1 c m .keeps q ∙ ap (λ (k : ℕ). iter step k m) none)
 
 pub export : (c : Call) (w : List ℕ) (z : Spaces) → Export c w z
-unfolding call writtenLeft linedLeft acknowledgedLeft steppedLeft ranLeft
+unfolding call writtenLeft linedLeft acknowledgedLeft steppedLeft ranLeft whyAnswered
 export Call.reset w z = record { number = refl; nothing = λ q. absurd (q refl) }
 export (Call.write-pointer p) w z = record { number = refl; nothing = λ q. absurd (q refl) }
 export Call.read-pointer w z = record { number = refl; nothing = λ q. absurd (q refl) }
@@ -247,6 +256,10 @@ export (Call.run budget) w z = record {
     words-stay budget w z (λ e. q (low-last budget w z ∙ e)) none,
     spaces-stay (Call.run budget) (lent w z) (λ e. q (low-last budget w z ∙ last-says budget w z .below ∙ e)) none,
   );
+}
+export (Call.why n) w z = record {
+  number = why-says (whyAt n (boardOf z) (stateOf w)) (number-byte (Call.why n) (lent w z)) .below;
+  nothing = λ q none. (refl, refl);
 }
 
 -- the steps of a run stand above its last answer's 32 bits

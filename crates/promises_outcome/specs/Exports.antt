@@ -5,10 +5,11 @@ use mathlib.Core.Logic.{_≢_}
 use mathlib.Core.List.{List}
 use Prim.Native.Nat.{ℕ, _%_}
 use Rattle.space.specs.Space.{Spaces}
+use Rattle.space_board.specs.Board.{boardOf}
 use Rattle.call_read.specs.Reading.{readOf}
 use Rattle.host_state.specs.Load.{stateOf}
 use Rattle.host_answer.specs.Numbers.{readNumber}
-use Rattle.host.specs.Calls.{Returned, Crossed, crossed, resetLeft, pointedLeft, writtenLeft, linedLeft, acknowledgedLeft, steppedLeft, ranLeft}
+use Rattle.host.specs.Calls.{Returned, Crossed, crossed, resetLeft, pointedLeft, writtenLeft, linedLeft, acknowledgedLeft, steppedLeft, ranLeft, whyAnswered}
 use Rattle.promises.specs.Machine.{Machine}
 use Rattle.promises.specs.Calls.{Call, call}
 
@@ -31,6 +32,7 @@ exported (Call.line n active) w z = beside z (linedLeft n active w)
 exported Call.acknowledge w z = beside z (acknowledgedLeft w)
 exported (Call.step eop) w z = steppedLeft eop w z
 exported (Call.run budget) w z = ranLeft budget w z
+exported (Call.why n) w z = crossed (whyAnswered n (boardOf z) w) w z
 
 -- the machine that the words stand for
 abbrev pub lent : List ℕ → Spaces → Machine

@@ -1,6 +1,6 @@
 -- The rules as laws: what a callee answered, and what the branch on it found, give the definition's case.
 use mathlib.Core.Path.{_≡_, refl, sym, ap, _∙_}
-use mathlib.Core.Bool.{Bool, true, false, _&&_}
+use mathlib.Core.Bool.{Bool, true, false}
 use Rattle.space.specs.Space.{Spaces}
 use Rattle.port.specs.declared.Which.{Which}
 use Rattle.word_mode.specs.declared.RequestMode.{RequestMode}
@@ -10,7 +10,6 @@ use Rattle.unit.specs.declared.Moved.{Moved}
 use Rattle.unit.specs.declared.Work.{Work}
 use Rattle.unit.specs.Unit.{Worked, whole, worked}
 use Rattle.channel.specs.declared.Channel.{Channel}
-use Rattle.channel.specs.Candidate.{isCandidate, interleaves}
 use Rattle.channel_request.specs.Request.{requests}
 use Rattle.channel.specs.Ending.{reasonsOf, movedBy, unended, afterBy, afterUnit}
 use Rattle.word_reload.specs.declared.Stage.{Stage}
@@ -25,7 +24,7 @@ use Rattle.step_rules.specs.declared.Turn.{Turn}
 use Rattle.step_rules.specs.declared.Turn.the-variants.{Nobodys, Whose}
 use Rattle.step_rules.specs.declared.Choice.{Choice}
 use Rattle.step_rules.specs.declared.Choice.the-variants.{Disabled, Fetch, GiveBack, Unit, Idle}
-use Rattle.step_rules.specs.Rules.{isEnabled, isInterleaved, turnBy, beginning, turned, intentBy, intentOf}
+use Rattle.step_rules.specs.Rules.{isEnabled, isInterleaved, beginning, turned, intentBy, intentOf}
 use Rattle.step_rules_code.specs.Channels.{keeper}
 use Rattle.step.specs.declared.Controller.{Controller}
 use Rattle.step.specs.declared.Stepped.{Stepped}
@@ -38,11 +37,9 @@ use Rattle.step.specs.Step.{outcome, says, workOf, goneOn, endedAfter, u
 
 -- ---- a candidate
 
-module _ (u : Controller) (x y a b : Bool) (t : Turn) (ex : x ≡ interleaves (u .one)) (ey : y ≡ interleaves (u .two)) (ea : a ≡ isCandidate (u .one))
-    (eb : b ≡ isCandidate (u .two)) (et : t ≡ turnBy a b (x && y) (u .control .served)) where
+module _ (u : Controller) (t : Turn) (et : t ≡ turn u) where
   by-turn : {s : Turn} → t ≡ s → turned s (factsOf u) ≡ turned (turn u) (factsOf u)
-  unfolding turn
-  by-turn e = ap (λ (z : Turn). turned z (factsOf u)) (sym e ∙ et ∙ (λ i. turnBy (ea i) (eb i) (ex i && ey i) (u .control .served)))
+  by-turn e = ap (λ (z : Turn). turned z (factsOf u)) (sym e ∙ et)
 
   pub nobodys : t ≡ Nobodys → Idle ≡ turned (turn u) (factsOf u)
   nobodys e = by-turn e

@@ -61,15 +61,19 @@ pub chooses : (b : Board) (u : Controller) {c : Choice} → Chosen b u c → cho
 unfolding choice
 chooses b u h = only (factsOf u) (faultsOf b u) h
 
--- ---- whose turn it is, that one is a candidate
+-- ---- whose turn it is, that one is a candidate; where it is nobody's, neither is
 
 abbrev TurnFacts : Turn → Controller → Type 0
-TurnFacts Nobodys u = true ≡ true
+TurnFacts Nobodys u = (w : Which) → isCandidate (at w u) ≡ false
 TurnFacts (Whose w) u = isCandidate (at w u) ≡ true
 
 turn-named : (a b both : Bool) (s : Served) (u : Controller) → isCandidate (u .one) ≡ a → isCandidate (u .two) ≡ b → TurnFacts (turnBy a b both s) u
 unfolding at
-turn-named false false both s u p q = refl
+turn-named false false both s u p q = neither
+  where
+    neither : (w : Which) → isCandidate (at w u) ≡ false
+    neither One = p
+    neither Two = q
 turn-named false true both s u p q = q
 turn-named true false both s u p q = p
 turn-named true true false s u p q = p
@@ -77,11 +81,17 @@ turn-named true true true Nobody u p q = p
 turn-named true true true (Last One) u p q = q
 turn-named true true true (Last Two) u p q = p
 
-pub is-candidate : (w : Which) (u : Controller) → Turns (Whose w) (factsOf u) → isCandidate (at w u) ≡ true
+turn-facts : {t : Turn} (u : Controller) → Turns t (factsOf u) → TurnFacts t u
 unfolding turn
-is-candidate w u t =
+turn-facts u t =
     subst (λ (x : Turn). TurnFacts x u) (t .turn)
     (turn-named (isCandidate (u .one)) (isCandidate (u .two)) (interleaves (u .one) && interleaves (u .two)) (u .control .served) u refl refl)
+
+pub is-candidate : (w : Which) (u : Controller) → Turns (Whose w) (factsOf u) → isCandidate (at w u) ≡ true
+is-candidate w u t = turn-facts u t
+
+pub no-candidate : (w : Which) (u : Controller) → Turns Nobodys (factsOf u) → isCandidate (at w u) ≡ false
+no-candidate w u t = turn-facts u t w
 
 -- ---- EOP is ignored but by a unit, a fetch and while holding
 

@@ -3,7 +3,7 @@ ghost use mathlib.Core.Path.{_≡_};
 ghost use mathlib.Core.Bool.{true};
 ghost use Rattle.facts.specs.First.{firstOf};
 ghost use Rattle.space.specs.Space.{spaces};
-ghost use Rattle.step_rules.specs.Rules.{beginning, turned, intentBy, intentOf, refusals, refusedOr};
+ghost use Rattle.step_rules.specs.Rules.{beginning, turned, intentBy, intentOf, refusals};
 ghost use Rattle.step_rules_code.specs.Channels.{keeper};
 ghost use Rattle.word_mode.specs.Mode.{requestModeOf};
 ghost use Rattle.word_address.specs.Address.{isOdd};
@@ -136,19 +136,26 @@ impl Controller {
         }
     }
 
-    fn candidate_intent(self) -> Choice
-        ensures { λ r. ⌜ r ≡ turned (turn self) (factsOf self) ⌝ }
+    // Whose turn it is among the candidates.
+    pub fn turn(self) -> Turn
+        ensures { λ r. ⌜ r ≡ turn self ⌝ }
     {
         let both = step_rules_code::is_interleaving(self.one)
             & step_rules_code::is_interleaving(self.two);
         let control = self.control;
         let served = control.served;
-        let turn = step_rules_code::whose_turn(
+        step_rules_code::whose_turn(
             self.one.is_candidate(),
             self.two.is_candidate(),
             both,
             served,
-        );
+        )
+    }
+
+    fn candidate_intent(self) -> Choice
+        ensures { λ r. ⌜ r ≡ turned (turn self) (factsOf self) ⌝ }
+    {
+        let turn = self.turn();
         match turn {
             Turn::Nobodys => Choice::Idle,
             Turn::Whose(w) => self.begin(w),
@@ -213,23 +220,19 @@ impl Controller {
         }
     }
 
-    // What the rules intend, or its first refusal. No rule of document 01 looks at the board.
-    fn unless_refused(self, board: Board, intent: Choice) -> Choice
-        ensures { λ r. ⌜ r ≡ refusedOr (firstOf (refusals intent (faultsOf board self))) intent ⌝ }
+    // The number that refuses what is intended, or 0. No rule of document 01 looks at the board.
+    fn refusal(self, board: Board, intent: Choice) -> u8
+        ensures { λ r. ⌜ r ≡ firstOf (refusals intent (faultsOf board self)) ⌝ }
     {
         match intent {
-            Choice::Disabled => Choice::Disabled,
-            Choice::Refused(n) => Choice::Refused(n),
-            Choice::Fetch(w, stage) => step_rules_code::fetch_choice(
-                stage,
-                self.has_odd_table(w),
-                w,
-            ),
-            Choice::GiveBack => Choice::GiveBack,
-            Choice::Unit(w) => step_rules_code::unit_choice(self.unit_refusal(board, w), w),
-            Choice::Hold(w) => Choice::Hold(w),
-            Choice::Release => Choice::Release,
-            Choice::Idle => Choice::Idle,
+            Choice::Disabled => 0,
+            Choice::Refused(_) => 0,
+            Choice::Fetch(w, stage) => step_rules_code::fetch_refusal(stage, self.has_odd_table(w)),
+            Choice::GiveBack => 0,
+            Choice::Unit(w) => self.unit_refusal(board, w),
+            Choice::Hold(_) => 0,
+            Choice::Release => 0,
+            Choice::Idle => 0,
         }
     }
 
@@ -237,7 +240,8 @@ impl Controller {
     pub fn choose(self, board: Board) -> Choice
         ensures { λ r. ⌜ r ≡ choice board self ⌝ }
     {
-        self.unless_refused(board, self.intent())
+        let intent = self.intent();
+        step_rules_code::refused_or(self.refusal(board, intent), intent)
     }
 
     // ---- a chain's word

@@ -96,30 +96,26 @@ pub fn begin_intent(pending: bool, w: Which) -> Choice
     }
 }
 
-// A fetch, or its refusal.
-pub fn fetch_choice(stage: Stage, odd: bool, w: Which) -> Choice
-    ensures { λ r. ⌜ r ≡ refusedOr (firstOf (fetchRefusals odd stage)) (Choice.Fetch w stage) ⌝ }
+// The number that refuses a fetch, or 0.
+pub fn fetch_refusal(stage: Stage, odd: bool) -> u8
+    ensures { λ r. ⌜ r ≡ firstOf (fetchRefusals odd stage) ⌝ }
 {
     match stage {
         Stage::Reload => {
             if odd {
-                return Choice::Refused(6);
+                return 6;
             }
-            Choice::Fetch(w, Stage::Reload)
+            0
         }
-        Stage::Entries(p) => Choice::Fetch(w, Stage::Entries(p)),
+        Stage::Entries(_) => 0,
     }
 }
 
-// A unit, or its refusal by a number.
-pub fn unit_choice(n: u8, w: Which) -> Choice
-    ensures { λ r. ⌜ r ≡ refusedOr n (Choice.Unit w) ⌝ }
+// What is intended, or its refusal by a number.
+pub fn refused_or(n: u8, intent: Choice) -> Choice
+    ensures { λ r. ⌜ r ≡ refusedOr n intent ⌝ }
 {
-    if n == 0 {
-        Choice::Unit(w)
-    } else {
-        Choice::Refused(n)
-    }
+    if n == 0 { intent } else { Choice::Refused(n) }
 }
 
 pub fn is_interleaving(c: Channel) -> bool

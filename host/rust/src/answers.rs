@@ -1,5 +1,7 @@
 //! What the calls answer.
 
+use std::fmt;
+
 /// The words of a controller's state.
 pub const WORDS: usize = 72;
 
@@ -23,6 +25,14 @@ impl Channel {
             1 => Some(Channel::One),
             2 => Some(Channel::Two),
             _ => None,
+        }
+    }
+
+    /// The other one.
+    pub const fn other(self) -> Channel {
+        match self {
+            Channel::One => Channel::Two,
+            Channel::Two => Channel::One,
         }
     }
 
@@ -130,6 +140,93 @@ pub struct Interrupt {
     pub channel: Channel,
     /// The channel's interrupt save word; none where master mode says no vector.
     pub save: Option<u16>,
+}
+
+/// Why a channel stands still, in document 02's order; it displays as document 02's words.
+#[derive(Clone, Copy, Debug, PartialEq, Eq, Hash)]
+#[repr(u8)]
+pub enum Cause {
+    /// The next step without EOP fetches a word or does a unit for the channel.
+    NothingWrong = 0,
+    /// Master mode does not enable the controller.
+    Disabled = 1,
+    /// A chain is under way on the other channel.
+    OthersChain = 2,
+    /// The next step clears the give-back note.
+    Note = 3,
+    /// The other channel keeps the bus.
+    OthersBus = 4,
+    /// Chain aborted: write the chain address, then Start Chain.
+    Ca = 5,
+    /// A second interrupt waits for an acknowledge.
+    Sip = 6,
+    /// The operation has ended without reload or chain: Start Chain.
+    Nac = 7,
+    /// Clearing the hardware mask would make the request active.
+    Masked = 8,
+    /// The request is not active, and clearing the hardware mask would not help.
+    NoRequest = 9,
+    /// The first fetch of the chain would be refused.
+    OddChain = 10,
+    /// The unit would be refused for its operation.
+    Operation = 11,
+    /// The unit would be refused for a word side at an odd address.
+    OddWord = 12,
+    /// Both channels want the bus, and the other comes first.
+    OthersTurn = 16,
+}
+
+impl Cause {
+    /// Every reason, nothing wrong and then the others in document 02's order.
+    pub const ALL: [Cause; 14] = [
+        Cause::NothingWrong,
+        Cause::Disabled,
+        Cause::OthersChain,
+        Cause::Note,
+        Cause::OthersBus,
+        Cause::Ca,
+        Cause::Sip,
+        Cause::Nac,
+        Cause::Masked,
+        Cause::NoRequest,
+        Cause::OddChain,
+        Cause::Operation,
+        Cause::OddWord,
+        Cause::OthersTurn,
+    ];
+
+    /// The reason of this number.
+    pub fn from_number(number: u8) -> Option<Cause> {
+        Cause::ALL
+            .into_iter()
+            .find(|cause| cause.number() == number)
+    }
+
+    /// Its number, as in `host/include/einflyga.h`.
+    pub const fn number(self) -> u8 {
+        self as u8
+    }
+}
+
+impl fmt::Display for Cause {
+    fn fmt(&self, f: &mut fmt::Formatter) -> fmt::Result {
+        f.write_str(match self {
+            Cause::NothingWrong => "nothing wrong",
+            Cause::Disabled => "disabled",
+            Cause::OthersChain => "chain under way on the other channel",
+            Cause::Note => "give-back note",
+            Cause::OthersBus => "bus kept by the other channel",
+            Cause::Ca => "CA",
+            Cause::Sip => "SIP",
+            Cause::Nac => "NAC",
+            Cause::Masked => "masked with the line active",
+            Cause::NoRequest => "no request",
+            Cause::OddChain => "odd chain address",
+            Cause::Operation => "operation not carried",
+            Cause::OddWord => "odd word address",
+            Cause::OthersTurn => "other channel's turn",
+        })
+    }
 }
 
 /// Why a call was refused; a refused call changes nothing.

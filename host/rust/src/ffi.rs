@@ -25,4 +25,10 @@ extern "C" {
         io: *mut u8,
         io_length: usize,
     ) -> u64;
+    pub fn einflyga_why(
+        state: *const u16,
+        channel: u32,
+        memory_length: usize,
+        io_length: usize,
+    ) -> u32;
 }

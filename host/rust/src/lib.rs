@@ -41,7 +41,7 @@ pub mod ffi;
 pub mod plain;
 pub mod port;
 
-pub use answers::{Channel, Interrupt, Reasons, Refusal, Run, Step, LONGEST_RUN, WORDS};
+pub use answers::{Cause, Channel, Interrupt, Reasons, Refusal, Run, Step, LONGEST_RUN, WORDS};
 
 /// A controller: the 72 words of its state, in the layout of `host/include/einflyga.h`.
 #[derive(Clone, Debug, PartialEq, Eq)]
@@ -148,6 +148,15 @@ impl Controller {
                 steps: (answer >> 32) as u32,
             }),
         }
+    }
+
+    /// Says why a channel stands still, over these spaces, and changes nothing.
+    pub fn why(&self, channel: impl Into<u32>, memory: &[u8], io: &[u8]) -> Result<Cause, Refusal> {
+        let state = self.words.as_ptr();
+        let answer = unsafe { ffi::einflyga_why(state, channel.into(), memory.len(), io.len()) };
+        carried(answer).map(|answer| {
+            Cause::from_number((answer >> 8) as u8).expect("the library answers a reason")
+        })
     }
 }
 

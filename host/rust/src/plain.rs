@@ -1,8 +1,8 @@
-//! The plain model: document 01, with request E2 of document 02, in ordinary Rust, written without sight of the proved library.
+//! The plain model: document 01, with requests E2 and E4 of document 02, in ordinary Rust, written without sight of the proved library.
 //!
 //! It is the other side of the comparison and the yardstick for speed.
 
-use crate::{Channel, Interrupt, Reasons, Refusal, Run, Step, LONGEST_RUN, WORDS};
+use crate::{Cause, Channel, Interrupt, Reasons, Refusal, Run, Step, LONGEST_RUN, WORDS};
 
 // Master mode.
 const ENABLE: u16 = 1 << 0;
@@ -292,6 +292,44 @@ impl Registers {
 
     fn is_candidate(&self) -> bool {
         self.pending || self.is_ready_for_unit()
+    }
+
+    /// Whether its unit would use a word side at an odd address.
+    fn uses_odd_word(&self) -> bool {
+        let flipped = self.mode & FLIP != 0;
+        match self.mode & 0xF {
+            0x0 | 0x4 => self.current_a.is_odd() || self.current_b.is_odd(),
+            0x8 | 0x9 | 0xC | 0xD => self.current_b.is_odd(),
+            0xE if flipped => self.current_b.is_odd(),
+            0xE => self.current_a.is_odd(),
+            _ => false,
+        }
+    }
+
+    /// What keeps a channel without a chain from its unit.
+    fn why_no_unit(&self) -> Option<Cause> {
+        if self.ca {
+            return Some(Cause::Ca);
+        }
+        if self.sip {
+            return Some(Cause::Sip);
+        }
+        if self.nac {
+            return Some(Cause::Nac);
+        }
+        if !self.requests() {
+            let mut unmasked = self.clone();
+            unmasked.set_mode_bit(HARDWARE_MASK, false);
+            return Some(if unmasked.requests() {
+                Cause::Masked
+            } else {
+                Cause::NoRequest
+            });
+        }
+        if matches!(self.mode & 0xF, 0x2 | 0x3 | 0x6 | 0x7 | 0xA | 0xB) {
+            return Some(Cause::Operation);
+        }
+        self.uses_odd_word().then_some(Cause::OddWord)
     }
 
     /// Whether the mode's triple asks for its action at this end.
@@ -1036,6 +1074,50 @@ impl Plain {
         } else if channel.requests() {
             self.keeper = Some(who);
         }
+    }
+
+    /// Says why a channel stands still; no reason of document 02 asks for the spaces yet.
+    pub fn why(
+        &self,
+        channel: impl Into<u32>,
+        _memory: &[u8],
+        _io: &[u8],
+    ) -> Result<Cause, Refusal> {
+        let who = Channel::from_number(channel.into()).ok_or(Refusal::NoChannel)?;
+        Ok(self.cause(who).unwrap_or(Cause::NothingWrong))
+    }
+
+    fn cause(&self, who: Channel) -> Option<Cause> {
+        let other = Some(who.other());
+        let chaining = self.chain.map(|chain| chain.who);
+        if self.master_mode & ENABLE == 0 {
+            return Some(Cause::Disabled);
+        }
+        if chaining == other {
+            return Some(Cause::OthersChain);
+        }
+        if self.note {
+            return Some(Cause::Note);
+        }
+        if self.keeper == other {
+            return Some(Cause::OthersBus);
+        }
+        let channel = &self.channels[who as usize];
+        let first_fetch = match self.chain {
+            Some(chain) => chain.table.is_none(),
+            None => channel.pending,
+        };
+        let has_chain = chaining.is_some() || channel.pending;
+        if !has_chain {
+            if let Some(cause) = channel.why_no_unit() {
+                return Some(cause);
+            }
+        }
+        if first_fetch && channel.chain.is_odd() {
+            return Some(Cause::OddChain);
+        }
+        let rule_5_chooses = chaining.is_none() && self.keeper.is_none();
+        (rule_5_chooses && self.chosen() == other).then_some(Cause::OthersTurn)
     }
 
     /// The state in the 72-word layout of `host/include/einflyga.h`.

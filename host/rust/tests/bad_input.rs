@@ -2,7 +2,7 @@
 
 mod rng;
 
-use einflyga::{ffi, LONGEST_RUN, WORDS};
+use einflyga::{ffi, Cause, LONGEST_RUN, WORDS};
 use rng::Rng;
 use std::ptr;
 
@@ -16,6 +16,7 @@ const READ: &[u8] = &[CARRIED, 1];
 const LINE: &[u8] = &[CARRIED, 10];
 const ACKNOWLEDGE: &[u8] = &[CARRIED, 9];
 const STEP: &[u8] = &[CARRIED, 6, 7, 8];
+const WHY: &[u8] = &[CARRIED, 10];
 const RUN: &[u8] = &[CARRIED, 6, 7, 8, 11];
 
 /// Something that is lent, between guards that must stay as they are.
@@ -116,7 +117,7 @@ fn check_step(answer: u32) -> bool {
 fn call(rng: &mut Rng, state: *mut u16, memory: (*mut u8, usize), io: (*mut u8, usize)) -> bool {
     let is_carried = |answer: u32| answer as u8 == CARRIED;
     unsafe {
-        match rng.below(12) {
+        match rng.below(13) {
             0 => {
                 ffi::einflyga_fresh(state);
                 true
@@ -151,7 +152,14 @@ fn call(rng: &mut Rng, state: *mut u16, memory: (*mut u8, usize), io: (*mut u8, 
                 check_refusal(answer, ACKNOWLEDGE)
                     && (!is_carried(answer) || check_acknowledge(answer))
             }
-            9 | 10 => {
+            9 => {
+                let channel = rng.pick(&[0, 1, 2, 3, 257, u32::MAX]);
+                let answer = ffi::einflyga_why(state, channel, memory.1, io.1);
+                check_refusal(answer, WHY)
+                    && (!is_carried(answer) || Cause::from_number((answer >> 8) as u8).is_some())
+                    && answer >> 16 == 0
+            }
+            10 | 11 => {
                 let eop = rng.flag();
                 let answer = ffi::einflyga_step(state, eop, memory.0, memory.1, io.0, io.1);
                 check_refusal(answer, STEP) && (!is_carried(answer) || check_step(answer))

@@ -7,7 +7,9 @@ mod rng;
 
 use chip::Chip;
 use einflyga::plain::Plain;
-use einflyga::{port, Channel, Controller, Interrupt, Refusal, Run, Step, LONGEST_RUN, WORDS};
+use einflyga::{
+    port, Cause, Channel, Controller, Interrupt, Refusal, Run, Step, LONGEST_RUN, WORDS,
+};
 use rng::{from_environment, Rng};
 
 const CASES: u64 = 80_000;
@@ -39,6 +41,7 @@ enum Call {
     Acknowledge,
     Step(bool),
     Run(u32),
+    Why(u32),
 }
 
 #[derive(Clone, Copy, Debug, PartialEq, Eq)]
@@ -50,6 +53,7 @@ enum Answer {
     Interrupt(Result<Interrupt, Refusal>),
     Step(Result<Step, Refusal>),
     Run(Result<Run, Refusal>),
+    Why(Result<Cause, Refusal>),
 }
 
 impl Answer {
@@ -61,6 +65,7 @@ impl Answer {
             Answer::Interrupt(answer) => answer.err(),
             Answer::Step(answer) => answer.err(),
             Answer::Run(answer) => answer.map_or_else(Some, |run| run.last.err()),
+            Answer::Why(answer) => answer.err(),
         }
     }
 }
@@ -86,6 +91,7 @@ impl<C: Chip> Side<C> {
             Call::Acknowledge => return Answer::Interrupt(chip.acknowledge()),
             Call::Step(eop) => return Answer::Step(chip.step(eop, memory, io)),
             Call::Run(budget) => return Answer::Run(chip.run(budget, memory, io)),
+            Call::Why(channel) => return Answer::Why(chip.why(channel, memory, io)),
         }
         Answer::Nothing
     }
@@ -105,6 +111,8 @@ struct Tally {
     compared: [[[u64; 4]; 4]; 2],
     /// By reload bit.
     entries: [u64; 10],
+    /// By channel and reason.
+    causes: [[u64; 17]; 2],
     second_interrupts: u64,
     wordless_interrupts: u64,
     whole_runs: u64,
@@ -210,6 +218,12 @@ impl Tally {
         }
         for (bit, &met) in self.entries.iter().enumerate() {
             rows.push((format!("fetch for reload bit {bit}"), met));
+        }
+        for (who, met) in Channel::BOTH.into_iter().zip(&self.causes) {
+            for cause in Cause::ALL {
+                let name = format!("channel {}: {cause}", who.number());
+                rows.push((name, met[usize::from(cause.number())]));
+            }
         }
         rows.push(("acknowledge of SIP".into(), self.second_interrupts));
         rows.push(("acknowledge without word".into(), self.wordless_interrupts));
@@ -346,6 +360,7 @@ impl<'a> Case<'a> {
 
     /// Makes one call on both sides and compares all that can be seen.
     fn call(&mut self, call: Call) -> Answer {
+        let causes = Channel::BOTH.map(|who| self.why(who));
         let proved = self.proved.perform(call);
         let plain = self.plain.perform(call);
         let words = self.plain.chip.words();
@@ -356,9 +371,33 @@ impl<'a> Case<'a> {
         if !same {
             self.fail(&format!("{call:?}\nproved {proved:?}\nplain  {plain:?}"));
         }
+        if let (Call::Step(false), Answer::Step(step)) = (call, plain) {
+            for (who, cause) in Channel::BOTH.into_iter().zip(causes) {
+                let served = matches!(step, Ok(Step::Fetched(w) | Step::Unit(w, _)) if w == who);
+                if served != (cause == Cause::NothingWrong) {
+                    self.fail(&format!("{who:?}: {cause}, and then {step:?}"));
+                }
+            }
+        }
         let before = std::mem::replace(&mut self.state, State(words));
         self.tally.count(&before, &self.state, plain);
         plain
+    }
+
+    /// Asks both sides why a channel stands still; that changes nothing.
+    fn why(&mut self, who: Channel) -> Cause {
+        let proved = self.proved.perform(Call::Why(who.into()));
+        let plain = self.plain.perform(Call::Why(who.into()));
+        let cause = match plain {
+            Answer::Why(Ok(cause)) if proved == plain && self.same_words() => cause,
+            _ => self.fail(&format!("why {who:?}\nproved {proved:?}\nplain  {plain:?}")),
+        };
+        self.tally.causes[who as usize][usize::from(cause.number())] += 1;
+        cause
+    }
+
+    fn same_words(&self) -> bool {
+        *self.proved.chip.words() == self.state.0 && self.plain.chip.words() == self.state.0
     }
 
     fn same_spaces(&self, same: fn(&[u8], &[u8]) -> bool) -> bool {
@@ -402,6 +441,7 @@ impl<'a> Case<'a> {
             86..=87 => self.write_master_mode(),
             88..=95 => self.start_some_chain(),
             96..=97 => self.change_data(),
+            98 if self.rng.flag() => self.ask_any_channel(),
             98 => self.random_pointer(),
             _ => self.reset(),
         }
@@ -458,6 +498,12 @@ impl<'a> Case<'a> {
         let channel = self.rng.pick(&[1, 1, 1, 1, 2, 2, 2, 2, 0, 3, 257, random]);
         let active = self.rng.below(5) < 3;
         self.call(Call::Line(channel, active));
+    }
+
+    fn ask_any_channel(&mut self) {
+        let random = self.rng.next() as u32;
+        let channel = self.rng.pick(&[0, 1, 2, 3, 257, u32::MAX, random]);
+        self.call(Call::Why(channel));
     }
 
     fn some_channel(&mut self) -> Channel {

@@ -3,7 +3,7 @@
 mod chip;
 
 use chip::Chip;
-use einflyga::{port, Channel, Controller, Reasons, Refusal, Step};
+use einflyga::{port, Cause, Channel, Controller, Reasons, Refusal, Step};
 
 const ONE: Channel = Channel::One;
 
@@ -282,6 +282,26 @@ fn lines_of_no_channel<C: Chip>() {
         assert_eq!(chip.line(channel, true), Err(Refusal::NoChannel));
     }
     assert_eq!(chip.words(), before);
+}
+
+/// The words of each reason stand once more in the header and in the console, under the same number and in the same order.
+#[test]
+fn e4_words_are_those_of_the_header_and_the_console() {
+    const HEADER: &str = include_str!("../../include/einflyga.h");
+    const CONSOLE: &str = include_str!("../../../crates/console_answer/src/lib.rt");
+    let enumeration = HEADER.split("enum einflyga_cause {").nth(1).expect("it");
+    let numbers = enumeration.split('}').next().expect("it").split(" = ");
+    let numbers: Vec<u8> = numbers
+        .skip(1)
+        .map(|rest| rest.split([' ', ',', '\n']).next().expect("a number"))
+        .map(|number| number.parse().expect("a number"))
+        .collect();
+    assert_eq!(numbers, Cause::ALL.map(Cause::number));
+    for text in [HEADER, CONSOLE] {
+        let places = Cause::ALL.map(|cause| text.find(&format!("\"{cause}\"")));
+        assert!(places.iter().all(Option::is_some), "{places:?}");
+        assert!(places.is_sorted(), "{places:?}");
+    }
 }
 
 macro_rules! on_both_sides {

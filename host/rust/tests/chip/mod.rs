@@ -4,7 +4,7 @@
 #![allow(dead_code)]
 
 use einflyga::plain::Plain;
-use einflyga::{Controller, Interrupt, Refusal, Run, Step, WORDS};
+use einflyga::{Cause, Controller, Interrupt, Refusal, Run, Step, WORDS};
 
 pub trait Chip: Sized {
     fn new() -> Self;
@@ -19,6 +19,7 @@ pub trait Chip: Sized {
     fn acknowledge(&mut self) -> Result<Interrupt, Refusal>;
     fn step(&mut self, eop: bool, memory: &mut [u8], io: &mut [u8]) -> Result<Step, Refusal>;
     fn run(&mut self, budget: u32, memory: &mut [u8], io: &mut [u8]) -> Result<Run, Refusal>;
+    fn why(&self, channel: u32, memory: &[u8], io: &[u8]) -> Result<Cause, Refusal>;
 }
 
 /// The calls that both sides have under the same names.
@@ -62,6 +63,10 @@ macro_rules! same_calls {
 
         fn run(&mut self, budget: u32, memory: &mut [u8], io: &mut [u8]) -> Result<Run, Refusal> {
             <$side>::run(self, budget, memory, io)
+        }
+
+        fn why(&self, channel: u32, memory: &[u8], io: &[u8]) -> Result<Cause, Refusal> {
+            <$side>::why(self, channel, memory, io)
         }
     };
 }

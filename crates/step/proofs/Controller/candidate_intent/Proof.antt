@@ -8,12 +8,8 @@ candidate-intent-spec =
     tie.close
     (tie.spec
     (λ c κs. search needs)
-    (λ c κs. search needs)
-    (λ c κs. search needs)
-    (λ c κs. search needs)
-    (λ c κs. search needs)
     (λ c. search needs)
     (λ c. search needs)
     (λ c κs. search needs)
-    (λ c. let a = c .before .before .before .before .before .before .before .before .args in nobodys (a .self) _ _ _ _ _ (c .before .before .before .before .before .before .before .is-interleaving .ensures) (c .before .before .before .before .before .before .is-interleaving2 .ensures) (c .before .before .before .before .is-candidate .ensures) (c .before .before .before .is-candidate2 .ensures) (c .before .before .whose-turn .ensures) (c .enum-told .given .1))
-    (λ c. let a = c .before .before .before .before .before .before .before .before .before .before .args in whose (a .self) _ _ _ _ _ (c .before .before .before .before .before .before .before .before .before .is-interleaving .ensures) (c .before .before .before .before .before .before .before .before .is-interleaving2 .ensures) (c .before .before .before .before .before .before .is-candidate .ensures) (c .before .before .before .before .before .is-candidate2 .ensures) (c .before .before .before .before .whose-turn .ensures) _ _ (c .before .before .turn .given .1) (c .begin .ensures)))
+    (λ c. nobodys (c .before .before .before .args .self) _ (c .before .before .turn .ensures) (c .enum-told .given .1))
+    (λ c. whose (c .before .before .before .before .before .args .self) _ (c .before .before .before .before .turn .ensures) _ _ (c .before .before .turn2 .given .1) (c .begin .ensures)))

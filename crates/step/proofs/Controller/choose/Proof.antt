@@ -11,4 +11,5 @@ choose-spec =
     (tie.spec
     (λ c κs. search needs)
     (λ c κs. search needs)
-    (λ c. rw (c .unless-refused .ensures, c .before .intent .ensures)))
+    (λ c κs. search needs)
+    (λ c. rw (c .refused-or .ensures, c .before .refusal .ensures, c .before .before .intent .ensures)))

@@ -1,0 +1,97 @@
+-- The reasons part by part: what each part makes of what comes after it. Assumes nothing.
+use Prim.Native.Nat.{ℕ, zero, suc}
+use mathlib.Core.Path.{_≡_, refl}
+use mathlib.Core.Bool.{Bool, true, false, not, cond, _&&_, true≢false}
+use mathlib.Core.List.{List, [], _∷_}
+use Rattle.facts.specs.First.{firstOr, firstOf}
+use Rattle.facts.specs.Look.{look}
+use Rattle.space_board.specs.declared.Board.{Board}
+use Rattle.word_reload.specs.declared.Stage.the-variants.{Reload, Entries}
+use Rattle.step_rules.specs.declared.Choice.{Choice}
+use Rattle.step_rules.specs.declared.Choice.the-variants as chosen
+use Rattle.step_rules.specs.Rules.{refusals}
+use Rattle.step.specs.declared.Controller.{Controller}
+use Rattle.step.specs.Choice.{faultsOf}
+use Rattle.standstill.specs.declared.Cause.{Cause}
+use Rattle.standstill.specs.declared.Cause.the-variants.{NothingWrong, Disabled, ChainOnTheOther, GiveBackNote, BusKeptByTheOther, Ca, Sip, Nac, Masked, NoRequest, OddChain, NotCarried, OddWord, TurnOfTheOther}
+use Rattle.standstill.specs.Causes.{causeOf, refusalsBefore}
+
+-- what the reasons of the controller make of what comes after them, and what the tests from CA to no request do
+abbrev pub shared-first : (off chained note kept : Bool) → Cause → Cause
+shared-first off chained note kept more = cond off Disabled (cond chained ChainOnTheOther (cond note GiveBackNote (cond kept BusKeptByTheOther more)))
+
+abbrev pub request-first : (ca sip nac active unmasked : Bool) → Cause → Cause
+request-first ca sip nac active unmasked more =
+    cond ca Ca (cond sip Sip (cond nac Nac (cond (not active && unmasked) Masked (cond (not active && not unmasked) NoRequest more))))
+
+-- ---- the refusals of its own step
+
+abbrev pub isNothing : Cause → Bool
+isNothing NothingWrong = true
+isNothing Disabled = false
+isNothing ChainOnTheOther = false
+isNothing GiveBackNote = false
+isNothing BusKeptByTheOther = false
+isNothing Ca = false
+isNothing Sip = false
+isNothing Nac = false
+isNothing Masked = false
+isNothing NoRequest = false
+isNothing OddChain = false
+isNothing NotCarried = false
+isNothing OddWord = false
+isNothing TurnOfTheOther = false
+
+abbrev pub isZero : ℕ → Bool
+isZero zero = true
+isZero (suc n) = false
+
+-- every refusal of the table has a number and a name
+abbrev pub Named : List (Bool × ℕ) → Type 0
+Named [] = true ≡ true
+Named (e ∷ es) = (isZero (e .1) ≡ false) × ((isNothing (causeOf (e .1)) ≡ false) × Named es)
+
+pub steps-named : (b : Board) (u : Controller) (own : Choice) → Named (refusals own (faultsOf b u))
+unfolding causeOf look
+steps-named b u chosen.Disabled = refl
+steps-named b u (chosen.Refused n) = refl
+steps-named b u (chosen.Fetch w Reload) = (refl, (refl, refl))
+steps-named b u (chosen.Fetch w (Entries p)) = refl
+steps-named b u chosen.GiveBack = refl
+steps-named b u (chosen.Unit w) = (refl, (refl, (refl, (refl, refl))))
+steps-named b u (chosen.Hold w) = refl
+steps-named b u chosen.Release = refl
+steps-named b u chosen.Idle = refl
+
+-- the reason by the number that refuses, or what comes after
+abbrev pub causeOr : ℕ → Cause → Cause
+causeOr zero more = more
+causeOr (suc n) more = causeOf (suc n)
+
+named-number : (n : ℕ) (more : Cause) → isZero n ≡ false → causeOf n ≡ causeOr n more
+named-number zero more e = absurd (true≢false e)
+named-number (suc n) more e = refl
+
+named-nothing : (n : ℕ) (more : Cause) → isZero n ≡ false → isNothing (causeOf n) ≡ false → isNothing (causeOr n more) ≡ (isZero n && isNothing more)
+named-nothing zero more e h = absurd (true≢false e)
+named-nothing (suc n) more e h = h
+
+pub refused-first : (t : List (Bool × ℕ)) (more : List (Bool × Cause)) → Named t
+    → firstOr NothingWrong (refusalsBefore t more) ≡ causeOr (firstOf t) (firstOr NothingWrong more)
+refused-first [] more h = refl
+refused-first (x ∷ es) more h = go (x .0) (refused-first es more (h .1 .1))
+  where
+    go : (b : Bool) → firstOr NothingWrong (refusalsBefore es more) ≡ causeOr (firstOf es) (firstOr NothingWrong more)
+        → cond b (causeOf (x .1)) (firstOr NothingWrong (refusalsBefore es more)) ≡ causeOr (cond b (x .1) (firstOf es)) (firstOr NothingWrong more)
+    go true i = named-number (x .1) (firstOr NothingWrong more) (h .0)
+    go false i = i
+
+-- nothing is wrong where nothing refuses and nothing comes after
+pub refused-nothing : (t : List (Bool × ℕ)) (more : Cause) → Named t → isNothing (causeOr (firstOf t) more) ≡ (isZero (firstOf t) && isNothing more)
+refused-nothing [] more h = refl
+refused-nothing (x ∷ es) more h = go (x .0) (refused-nothing es more (h .1 .1))
+  where
+    go : (b : Bool) → isNothing (causeOr (firstOf es) more) ≡ (isZero (firstOf es) && isNothing more)
+        → isNothing (causeOr (cond b (x .1) (firstOf es)) more) ≡ (isZero (cond b (x .1) (firstOf es)) && isNothing more)
+    go true i = named-nothing (x .1) more (h .0) (h .1 .0)
+    go false i = i
