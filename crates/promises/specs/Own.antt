@@ -7,7 +7,7 @@ use Rattle.space.specs.declared.Place.{Place}
 use Rattle.unit_laws.specs.Local.{In, places}
 use Rattle.unit_count.specs.Count.{units}
 use Rattle.port.specs.declared.Which.{Which}
-use Rattle.port.specs.Ports.{other}
+use Rattle.port.specs.Ports.{isOther, other}
 use Rattle.port.specs.declared.Which.the-variants.{One, Two}
 use Rattle.word_operation.specs.declared.Operation.{Operation}
 use Rattle.word_mode.specs.Mode.{operationOf}
@@ -22,10 +22,7 @@ use Rattle.promises.specs.Machine.{Machine, next-choice, channel, unit-w
 use Rattle.promises.specs.Calls.{StretchCall, steps, lines, points, reads-pointer, reads, Moment, next}
 
 abbrev pub same : Which → Which → Bool
-same One One = true
-same One Two = false
-same Two One = false
-same Two Two = true
+same w v = not (isOther w v)
 
 -- the step is a unit of channel w
 abbrev pub owns : Which → Choice → Bool

@@ -1,11 +1,9 @@
 -- Document 02, E4: nothing is wrong if and only if the next step is for this channel. Assumes nothing.
 use mathlib.Core.Path.{_≡_, refl, sym, ap, _∙_}
-use mathlib.Core.Bool.{Bool, true, false, not, true≢false}
+use mathlib.Core.Bool.{Bool, true, false, true≢false}
 use mathlib.Core.Logic.{_≢_}
 use Rattle.facts.proofs.First.{exactly}
 use Rattle.port.specs.declared.Which.{Which}
-use Rattle.port.specs.declared.Which.the-variants.{One, Two}
-use Rattle.port.specs.Ports.{isOther}
 use Rattle.space.specs.Space.{Spaces}
 use Rattle.space_board.specs.Board.{boardOf}
 use Rattle.channel.specs.Candidate.{isCandidate}
@@ -23,26 +21,19 @@ use Rattle.standstill.specs.Causes.{causes, whyOf}
 use Rattle.standstill.proofs.Parts.{isNothing, steps-named}
 use Rattle.standstill.proofs.Serving.{serves, Orderly, nothing-wrong}
 use Rattle.promises.specs.Machine.{Machine, answer}
-use Rattle.promises.specs.Own.{same}
 use Rattle.promises_requests.specs.Standstill.{served, why, First, Standstill, StandsStill}
 use Rattle.promises.specs.WellFormed.{WellFormed}
 use Rattle.promises.proofs.Reached.{chain-owner, bus-keeper, reached-well}
 
 -- ---- the step that was chosen is the step that is made
 
-same-channel : (w v : Which) → not (isOther w v) ≡ same w v
-same-channel One One = refl
-same-channel One Two = refl
-same-channel Two One = refl
-same-channel Two Two = refl
-
 performs : (w : Which) (c : Choice) (u : Controller) (z : Spaces) → serves w c ≡ served w (performOf c false u z .stepped .answer)
 unfolding performOf fetchOf unitOf holdOf
 performs w chosen.Disabled u z = refl
 performs w (chosen.Refused n) u z = refl
-performs w (chosen.Fetch v s) u z = same-channel w v
+performs w (chosen.Fetch v s) u z = refl
 performs w chosen.GiveBack u z = refl
-performs w (chosen.Unit v) u z = same-channel w v
+performs w (chosen.Unit v) u z = refl
 performs w (chosen.Hold v) u z = refl
 performs w chosen.Release u z = refl
 performs w chosen.Idle u z = refl

@@ -1,6 +1,6 @@
 -- What the tests of the code, and the branches on them, make of the reasons.
-use Prim.Native.Nat.{ℕ, zero, suc}
-use mathlib.Core.Path.{_≡_, refl, sym, ap, _∙_}
+use Prim.Native.Nat.{ℕ}
+use mathlib.Core.Path.{_≡_, sym, ap, _∙_}
 use mathlib.Core.Bool.{Bool, true, false, not, cond}
 use mathlib.Core.Logic.{_≢_}
 use Rattle.facts.specs.First.{firstOr, firstOf}
@@ -21,7 +21,7 @@ use Rattle.step.specs.Choice.{factsOf, faultsOf}
 use Rattle.standstill.specs.declared.Cause.{Cause}
 use Rattle.standstill.specs.declared.Cause.the-variants.{NothingWrong}
 use Rattle.standstill.specs.Causes.{chainOnTheOther, busKeptByTheOther, ownBy, requestsUnmasked, causeOf, turnCauses, refusalCauses, requestCauses, ownCauses, whyOf}
-use Rattle.standstill.proofs.Parts.{steps-named, shared-first, request-first, causeOr, refused-first}
+use Rattle.standstill.proofs.Parts.{shared-first, request-first, steps-named, causeOr, by-number, refused-first}
 
 module _ (own : Choice) (w : Which) (b : Board) (u : Controller) (n : ℕ) (r : Cause) (e : n ≡ firstOf (refusals own (faultsOf b u))) where
   abbrev turn : Cause
@@ -33,12 +33,8 @@ module _ (own : Choice) (w : Which) (b : Board) (u : Controller) (n : ℕ) (r : 
   pub unrefused : n ≡ 0 → r ≡ turn → r ≡ firstOr NothingWrong (refusalCauses own w (factsOf u) (faultsOf b u))
   unrefused z h = h ∙ sym (ap (λ (k : ℕ). causeOr k turn) z) ∙ first
 
-  by-number : (k : ℕ) → k ≢ 0 → causeOf k ≡ causeOr k turn
-  by-number zero q = absurd (q refl)
-  by-number (suc k) q = refl
-
   pub refused : n ≢ 0 → r ≡ causeOf n → r ≡ firstOr NothingWrong (refusalCauses own w (factsOf u) (faultsOf b u))
-  refused q h = h ∙ by-number n q ∙ first
+  refused q h = h ∙ by-number n turn q ∙ first
 
 -- nothing of its request is in the way of a unit
 pub asks : (w : Which) (b : Board) (u : Controller) (c : Channel) (active : Bool) (r : Cause) → c ≡ at w u

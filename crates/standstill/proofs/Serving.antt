@@ -130,9 +130,9 @@ module _ (w : Which) (c : Channel) (f : Facts) (g : Faults) (named : (i : Choice
   fetches : (v : Which) (s : Stage) → own (chosen.Fetch v s) ≡ causeOr (number (chosen.Fetch v s)) turn
   fetches v s = refused-first (refusals (chosen.Fetch v s) g) (turnCauses w f) (named (chosen.Fetch v s))
 
-  ready : Clear w c f → f .active w ≡ true → own (chosen.Unit w) ≡ causeOr (number (chosen.Unit w)) turn
-  ready k a =
-      (λ j. request-first (k .no-ca j) (k .no-sip j) (k .no-nac j) (a j) (requestsUnmasked c) (firstOr NothingWrong (refusalCauses (chosen.Unit w) w f g)))
+  ready : Ready (f .active w) (c .status .nac) (c .interrupt .sip) (c .status .ca) → own (chosen.Unit w) ≡ causeOr (number (chosen.Unit w)) turn
+  ready r =
+      (λ j. request-first (r .no-ca j) (r .no-sip j) (r .no-nac j) (r .active-request j) (requestsUnmasked c) (firstOr NothingWrong (refusalCauses (chosen.Unit w) w f g)))
       ∙ refused-first (refusals (chosen.Unit w) g) (turnCauses w f) (named (chosen.Unit w))
 
   -- ---- it is this channel's step
@@ -146,8 +146,8 @@ module _ (w : Which) (c : Channel) (f : Facts) (g : Faults) (named : (i : Choice
   fetched : (s : Stage) → others ≡ false → why ≡ own (chosen.Fetch w s) → Told (chosen.Fetch w s)
   fetched s t e = served (chosen.Fetch w s) (ap not (itself w)) t (e ∙ fetches w s)
 
-  moved : others ≡ false → why ≡ own (chosen.Unit w) → Clear w c f → f .active w ≡ true → Told (chosen.Unit w)
-  moved t e k a = served (chosen.Unit w) (ap not (itself w)) t (e ∙ ready k a)
+  moved : others ≡ false → why ≡ own (chosen.Unit w) → Ready (f .active w) (c .status .nac) (c .interrupt .sip) (c .status .ca) → Told (chosen.Unit w)
+  moved t e r = served (chosen.Unit w) (ap not (itself w)) t (e ∙ ready r)
 
   -- ---- it is not
 
@@ -206,7 +206,10 @@ module _ (w : Which) (c : Channel) (f : Facts) (g : Faults) (named : (i : Choice
   by-rule _ (keeps v k) = go v k (whose w v)
     where
       go : (v : Which) → Keeps true v f → Is w v → Told (chosen.Unit v)
-      go _ k mine = moved (λ j. turnOfTheOther w (k .calm .chain j) (k .bus j) (f .turn)) (keeper (k .calm) (k .bus)) (o .keeps-clear (k .bus)) (k .asks)
+      go _ k mine =
+          let q = o .keeps-clear (k .bus) in
+          moved (λ j. turnOfTheOther w (k .calm .chain j) (k .bus j) (f .turn)) (keeper (k .calm) (k .bus))
+          (record { active-request = k .asks; no-nac = q .no-nac; no-sip = q .no-sip; no-ca = q .no-ca })
       go _ k theirs = kept (chosen.Unit (other w)) (k .calm) (k .bus) (ap not (another w))
   by-rule _ (holds v k h) = waits v (chosen.Hold v) k refl (whose w v)
   by-rule _ (releases v k h) = waits v chosen.Release k refl (whose w v)
@@ -222,9 +225,7 @@ module _ (w : Which) (c : Channel) (f : Facts) (g : Faults) (named : (i : Choice
         where
           by-request : (f .pending w ≡ true) ⊎ Ready (f .active w) (c .status .nac) (c .interrupt .sip) (c .status .ca) → Told (chosen.Unit w)
           by-request (inl q) = absurd (true≢false (sym q ∙ p))
-          by-request (inr r) =
-              moved (my-turn t) (calm (t .calm) (ap (busKeptByTheOther w) (t .bus)) (ap (λ (b : Bool). beginning b w) p))
-              (record { no-pending = p; no-nac = r .no-nac; no-sip = r .no-sip; no-ca = r .no-ca }) (r .active-request)
+          by-request (inr r) = moved (my-turn t) (calm (t .calm) (ap (busKeptByTheOther w) (t .bus)) (ap (λ (b : Bool). beginning b w) p)) r
       go _ t p theirs = turned (chosen.Unit (other w)) t (ap not (another w))
   by-rule _ (idle t) =
       let n = neither (f .pending w) _ (o .nobodys t) in
