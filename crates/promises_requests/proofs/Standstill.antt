@@ -21,7 +21,7 @@ use Rattle.standstill.specs.Causes.{causes, whyOf}
 use Rattle.standstill.proofs.Parts.{isNothing, steps-named}
 use Rattle.standstill.proofs.Serving.{serves, Orderly, nothing-wrong}
 use Rattle.promises.specs.Machine.{Machine, answer}
-use Rattle.promises_requests.specs.Standstill.{served, why, First, Standstill, StandsStill}
+use Rattle.promises_requests.specs.Standstill.{served, why, FirstReason, Standstill, StandsStill}
 use Rattle.promises.specs.WellFormed.{WellFormed}
 use Rattle.promises.proofs.Reached.{chain-owner, bus-keeper, reached-well}
 
@@ -74,7 +74,7 @@ is-nothing OddWord e = absurd (true≢false (sym e))
 is-nothing TurnOfTheOther e = absurd (true≢false (sym e))
 
 -- of any state
-pub first : (w : Which) (m : Machine) → First w m
+pub first : (w : Which) (m : Machine) → FirstReason w m
 unfolding whyOf
 first w m = exactly NothingWrong (why w m) (causes (boardOf (m .spaces)) w (m .controller)) refl
 

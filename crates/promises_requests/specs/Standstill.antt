@@ -35,11 +35,11 @@ abbrev pub why : Which → Machine → Cause
 why w m = whyOf (boardOf (m .spaces)) w (m .controller)
 
 -- it is true of the state, and no earlier one of the list is
-abbrev pub First : Which → Machine → Type 0
-First w m = Exactly NothingWrong (why w m) (causes (boardOf (m .spaces)) w (m .controller))
+abbrev pub FirstReason : Which → Machine → Type 0
+FirstReason w m = Exactly NothingWrong (why w m) (causes (boardOf (m .spaces)) w (m .controller))
 
 pub record Standstill (w : Which) (m : Machine) : Type 0 where
-  pub reason : First w m
+  pub reason : FirstReason w m
   -- nothing wrong if and only if the next step, without EOP, fetches a word or does a unit for this channel
   pub moves : why w m ≡ NothingWrong ↔ served w (answer m) ≡ true
   -- with any other reason it does neither

@@ -49,24 +49,24 @@ asks w b u c active r e ca sip nac ea a h =
 
 -- what the channel would do, by what is under way
 module _ (w : Which) (b : Board) (u : Controller) (r : Cause) where
-  abbrev Is : Choice → Type 0
-  Is own = r ≡ firstOr NothingWrong (ownCauses own w (at w u) (factsOf u) (faultsOf b u))
+  abbrev Gives : Choice → Type 0
+  Gives own = r ≡ firstOr NothingWrong (ownCauses own w (at w u) (factsOf u) (faultsOf b u))
 
-  pub would : {own i : Choice} → own ≡ i → Is i → Is own
+  pub would : {own i : Choice} → own ≡ i → Gives i → Gives own
   would e h = h ∙ ap (λ (i : Choice). firstOr NothingWrong (ownCauses i w (at w u) (factsOf u) (faultsOf b u))) (sym e)
 
   module _ (chain : Chain) (pending : Bool) where
-    pub none : chain ≡ NoChain → Is (beginning pending w) → Is (ownBy chain pending w)
+    pub none : chain ≡ NoChain → Gives (beginning pending w) → Gives (ownBy chain pending w)
     none e h = would (ap (λ (x : Chain). ownBy x pending w) e) h
 
     module _ (v : Which) (s : Stage) (o : Bool) (e : chain ≡ Of v s) (eo : o ≡ isOther w v) where
       its : ownBy chain pending w ≡ cond o (beginning pending w) (Fetch w s)
       its = ap (λ (x : Chain). ownBy x pending w) e ∙ ap (λ (x : Bool). cond x (beginning pending w) (Fetch w s)) (sym eo)
 
-      pub of-the-other : o ≡ true → Is (beginning pending w) → Is (ownBy chain pending w)
+      pub of-the-other : o ≡ true → Gives (beginning pending w) → Gives (ownBy chain pending w)
       of-the-other q h = would (its ∙ ap (λ (x : Bool). cond x (beginning pending w) (Fetch w s)) q) h
 
-      pub of-its-own : o ≡ false → Is (Fetch w s) → Is (ownBy chain pending w)
+      pub of-its-own : o ≡ false → Gives (Fetch w s) → Gives (ownBy chain pending w)
       of-its-own q h = would (its ∙ ap (λ (x : Bool). cond x (beginning pending w) (Fetch w s)) q) h
 
 -- nothing of the controller's own is in the way

@@ -55,11 +55,11 @@ isZero zero = true
 isZero (suc n) = false
 
 -- every refusal of the table has a number and a name
-abbrev pub Named : List (Bool × ℕ) → Type 0
-Named [] = true ≡ true
-Named (e ∷ es) = (isZero (e .1) ≡ false) × ((isNothing (causeOf (e .1)) ≡ false) × Named es)
+abbrev pub AllNamed : List (Bool × ℕ) → Type 0
+AllNamed [] = true ≡ true
+AllNamed (e ∷ es) = (isZero (e .1) ≡ false) × ((isNothing (causeOf (e .1)) ≡ false) × AllNamed es)
 
-pub steps-named : (b : Board) (u : Controller) (own : Choice) → Named (refusals own (faultsOf b u))
+pub steps-named : (b : Board) (u : Controller) (own : Choice) → AllNamed (refusals own (faultsOf b u))
 unfolding causeOf look
 steps-named b u chosen.Disabled = refl
 steps-named b u (chosen.Refused n) = refl
@@ -93,7 +93,7 @@ named-nothing : (n : ℕ) (more : Cause) → isZero n ≡ false → isNothing (c
 named-nothing zero more e h = absurd (true≢false e)
 named-nothing (suc n) more e h = h
 
-pub refused-first : (t : List (Bool × ℕ)) (more : List (Bool × Cause)) → Named t
+pub refused-first : (t : List (Bool × ℕ)) (more : List (Bool × Cause)) → AllNamed t
     → firstOr NothingWrong (refusalsBefore t more) ≡ causeOr (firstOf t) (firstOr NothingWrong more)
 refused-first [] more h = refl
 refused-first (x ∷ es) more h = go (x .0) (refused-first es more (h .1 .1))
@@ -104,7 +104,7 @@ refused-first (x ∷ es) more h = go (x .0) (refused-first es more (h .1 .1))
     go false i = i
 
 -- nothing is wrong where nothing refuses and nothing comes after
-pub refused-nothing : (t : List (Bool × ℕ)) (more : Cause) → Named t → isNothing (causeOr (firstOf t) more) ≡ (isZero (firstOf t) && isNothing more)
+pub refused-nothing : (t : List (Bool × ℕ)) (more : Cause) → AllNamed t → isNothing (causeOr (firstOf t) more) ≡ (isZero (firstOf t) && isNothing more)
 refused-nothing [] more h = refl
 refused-nothing (x ∷ es) more h = go (x .0) (refused-nothing es more (h .1 .1))
   where

@@ -25,7 +25,7 @@ use Rattle.step_rules.proofs.View.Intends.{disabled, goes-on, noted, keeps, hol
 use Rattle.standstill.specs.declared.Cause.{Cause}
 use Rattle.standstill.specs.declared.Cause.the-variants.{NothingWrong, TurnOfTheOther}
 use Rattle.standstill.specs.Causes.{chainOnTheOther, busKeptByTheOther, turnOfTheOther, ownBy, requestsUnmasked, turnCauses, refusalCauses, ownCauses, causesBy}
-use Rattle.standstill.proofs.Parts.{shared-first, request-first, isNothing, isZero, Named, causeOr, refused-first, refused-nothing}
+use Rattle.standstill.proofs.Parts.{shared-first, request-first, isNothing, isZero, AllNamed, causeOr, refused-first, refused-nothing}
 
 -- ---- this channel and the other
 
@@ -83,7 +83,7 @@ bars false false false true unmasked more h = h refl
 abbrev candidate : Which → Channel → Facts → Bool
 candidate w c f = candidateOf (f .pending w) (f .active w) (c .status .nac) (c .interrupt .sip) (c .status .ca)
 
-pub record Clear (w : Which) (c : Channel) (f : Facts) : Type 0 where
+pub record Unbarred (w : Which) (c : Channel) (f : Facts) : Type 0 where
   pub no-pending : f .pending w ≡ false
   pub no-nac : c .status .nac ≡ false
   pub no-sip : c .interrupt .sip ≡ false
@@ -94,9 +94,9 @@ pub record Orderly (w : Which) (c : Channel) (f : Facts) : Type 0 where
   pub turns : Turns (Whose w) f → candidate w c f ≡ true
   pub nobodys : Turns Nobodys f → candidate w c f ≡ false
   pub chains : (s : Stage) → f .chain ≡ Of w s → (f .note ≡ false) × (f .bus ≡ Free)
-  pub keeps-clear : f .bus ≡ Kept w → Clear w c f
+  pub keeps-clear : f .bus ≡ Kept w → Unbarred w c f
 
-module _ (w : Which) (c : Channel) (f : Facts) (g : Faults) (named : (i : Choice) → Named (refusals i g)) (o : Orderly w c f) where
+module _ (w : Which) (c : Channel) (f : Facts) (g : Faults) (named : (i : Choice) → AllNamed (refusals i g)) (o : Orderly w c f) where
   abbrev why : Cause
   why = firstOr NothingWrong (causesBy w c f g)
 
@@ -115,8 +115,8 @@ module _ (w : Which) (c : Channel) (f : Facts) (g : Faults) (named : (i : Choice
   abbrev number : Choice → ℕ
   number i = firstOf (refusals i g)
 
-  abbrev Told : Choice → Type 0
-  Told i = isNothing why ≡ serves w (refusedOr (number i) i)
+  abbrev Verdict : Choice → Type 0
+  Verdict i = isNothing why ≡ serves w (refusedOr (number i) i)
 
   -- nothing of the controller's own is in the way
   past : {i : Choice} → f .enabled ≡ true → chainOnTheOther w (f .chain) ≡ false → f .note ≡ false → busKeptByTheOther w (f .bus) ≡ false
@@ -137,31 +137,31 @@ module _ (w : Which) (c : Channel) (f : Facts) (g : Faults) (named : (i : Choice
 
   -- ---- it is this channel's step
 
-  served : (i : Choice) → serves w i ≡ true → others ≡ false → why ≡ causeOr (number i) turn → Told i
+  served : (i : Choice) → serves w i ≡ true → others ≡ false → why ≡ causeOr (number i) turn → Verdict i
   served i s t e =
       ap isNothing (e ∙ ap (causeOr (number i)) (λ j. cond (t j) TurnOfTheOther NothingWrong))
       ∙ refused-nothing (refusals i g) NothingWrong (named i)
       ∙ sym (serves-or w (number i) i ∙ ap (λ (b : Bool). isZero (number i) && b) s)
 
-  fetched : (s : Stage) → others ≡ false → why ≡ own (chosen.Fetch w s) → Told (chosen.Fetch w s)
+  fetched : (s : Stage) → others ≡ false → why ≡ own (chosen.Fetch w s) → Verdict (chosen.Fetch w s)
   fetched s t e = served (chosen.Fetch w s) (ap not (itself w)) t (e ∙ fetches w s)
 
-  moved : others ≡ false → why ≡ own (chosen.Unit w) → Ready (f .active w) (c .status .nac) (c .interrupt .sip) (c .status .ca) → Told (chosen.Unit w)
+  moved : others ≡ false → why ≡ own (chosen.Unit w) → Ready (f .active w) (c .status .nac) (c .interrupt .sip) (c .status .ca) → Verdict (chosen.Unit w)
   moved t e r = served (chosen.Unit w) (ap not (itself w)) t (e ∙ ready r)
 
   -- ---- it is not
 
-  stands : (i : Choice) → serves w i ≡ false → isNothing why ≡ false → Told i
+  stands : (i : Choice) → serves w i ≡ false → isNothing why ≡ false → Verdict i
   stands i s e = e ∙ sym (serves-or w (number i) i ∙ ap (λ (b : Bool). isZero (number i) && b) s ∙ and-false (isZero (number i)))
 
   -- the bus is the other's
-  kept : (i : Choice) → Calm f → f .bus ≡ Kept (other w) → serves w i ≡ false → Told i
+  kept : (i : Choice) → Calm f → f .bus ≡ Kept (other w) → serves w i ≡ false → Verdict i
   kept i k b s =
       stands i s
       (ap isNothing (λ j. shared-first (not (k .enabled j)) (chainOnTheOther w (k .chain j)) (k .note j) ((ap (busKeptByTheOther w) b ∙ another w) j) rest))
 
   -- the turn is the other's
-  turned : (i : Choice) → Turns (Whose (other w)) f → serves w i ≡ false → Told i
+  turned : (i : Choice) → Turns (Whose (other w)) f → serves w i ≡ false → Verdict i
   turned i t s = stands i s (ap isNothing (calm (t .calm) (ap (busKeptByTheOther w) (t .bus)) refl) ∙ wrong (f .pending w))
     where
       late : (i : Choice) → isNothing (firstOr NothingWrong (refusalCauses i w f g)) ≡ false
@@ -177,7 +177,7 @@ module _ (w : Which) (c : Channel) (f : Facts) (g : Faults) (named : (i : Choice
       wrong false = bars (c .status .ca) (c .interrupt .sip) (c .status .nac) (f .active w) (requestsUnmasked c) _ (λ t. late (chosen.Unit w))
 
   -- it does not ask
-  unasked : (i : Choice) → serves w i ≡ false → why ≡ own (chosen.Unit w) → candidateOf false (f .active w) (c .status .nac) (c .interrupt .sip) (c .status .ca) ≡ false → Told i
+  unasked : (i : Choice) → serves w i ≡ false → why ≡ own (chosen.Unit w) → candidateOf false (f .active w) (c .status .nac) (c .interrupt .sip) (c .status .ca) ≡ false → Verdict i
   unasked i s e n = stands i s (ap isNothing e ∙ bars (c .status .ca) (c .interrupt .sip) (c .status .nac) (f .active w) (requestsUnmasked c) _ (λ t. absurd (true≢false (sym t ∙ n))))
 
   -- ---- rule by rule
@@ -188,16 +188,16 @@ module _ (w : Which) (c : Channel) (f : Facts) (g : Faults) (named : (i : Choice
   my-turn : Turns (Whose w) f → others ≡ false
   my-turn t = (λ j. turnOfTheOther w (t .calm .chain j) (t .bus j) (t .turn j)) ∙ itself w
 
-  waits : (v : Which) (i : Choice) → Keeps false v f → serves w i ≡ false → Is w v → Told i
+  waits : (v : Which) (i : Choice) → Keeps false v f → serves w i ≡ false → Is w v → Verdict i
   waits _ i k s mine =
       unasked i s (keeper (k .calm) (k .bus)) (λ j. candidateOf false (k .asks j) (c .status .nac) (c .interrupt .sip) (c .status .ca))
   waits _ i k s theirs = kept i (k .calm) (k .bus) s
 
-  by-rule : (i : Choice) → Intends f i → Told i
+  by-rule : (i : Choice) → Intends f i → Verdict i
   by-rule _ (disabled e) = stands chosen.Disabled refl (ap isNothing (λ j. shared-first (not (e j)) (chainOnTheOther w (f .chain)) (f .note) (busKeptByTheOther w (f .bus)) rest))
   by-rule _ (goes-on v s e x) = go v s e x (whose w v)
     where
-      go : (v : Which) (s : Stage) → f .enabled ≡ true → f .chain ≡ Of v s → Is w v → Told (chosen.Fetch v s)
+      go : (v : Which) (s : Stage) → f .enabled ≡ true → f .chain ≡ Of v s → Is w v → Verdict (chosen.Fetch v s)
       go _ s e x mine = fetched s (ap (λ (y : Chain). turnOfTheOther w y (f .bus) (f .turn)) x) (past e (ap (chainOnTheOther w) x ∙ itself w) (o .chains s x .0) (ap (busKeptByTheOther w) (o .chains s x .1)) (ap (λ (y : Chain). ownBy y (f .pending w) w) x ∙ ap (λ (b : Bool). cond b (beginning (f .pending w) w) (chosen.Fetch w s)) (itself w)))
       go _ s e x theirs =
           stands (chosen.Fetch (other w) s) (ap not (another w))
@@ -205,7 +205,7 @@ module _ (w : Which) (c : Channel) (f : Facts) (g : Faults) (named : (i : Choice
   by-rule _ (noted e x n) = stands chosen.GiveBack refl (ap isNothing (λ j. shared-first (not (e j)) (chainOnTheOther w (x j)) (n j) (busKeptByTheOther w (f .bus)) rest))
   by-rule _ (keeps v k) = go v k (whose w v)
     where
-      go : (v : Which) → Keeps true v f → Is w v → Told (chosen.Unit v)
+      go : (v : Which) → Keeps true v f → Is w v → Verdict (chosen.Unit v)
       go _ k mine =
           let q = o .keeps-clear (k .bus) in
           moved (λ j. turnOfTheOther w (k .calm .chain j) (k .bus j) (f .turn)) (keeper (k .calm) (k .bus))
@@ -215,15 +215,15 @@ module _ (w : Which) (c : Channel) (f : Facts) (g : Faults) (named : (i : Choice
   by-rule _ (releases v k h) = waits v chosen.Release k refl (whose w v)
   by-rule _ (begins-chain v t p) = go v t p (whose w v)
     where
-      go : (v : Which) → Turns (Whose v) f → f .pending v ≡ true → Is w v → Told (chosen.Fetch v Reload)
+      go : (v : Which) → Turns (Whose v) f → f .pending v ≡ true → Is w v → Verdict (chosen.Fetch v Reload)
       go _ t p mine = fetched Reload (my-turn t) (calm (t .calm) (ap (busKeptByTheOther w) (t .bus)) (ap (λ (b : Bool). beginning b w) p))
       go _ t p theirs = turned (chosen.Fetch (other w) Reload) t (ap not (another w))
   by-rule _ (begins-unit v t p) = go v t p (whose w v)
     where
-      go : (v : Which) → Turns (Whose v) f → f .pending v ≡ false → Is w v → Told (chosen.Unit v)
+      go : (v : Which) → Turns (Whose v) f → f .pending v ≡ false → Is w v → Verdict (chosen.Unit v)
       go _ t p mine = by-request (candidate-exactly (f .pending w) (f .active w) (c .status .nac) (c .interrupt .sip) (c .status .ca) .0 (o .turns t))
         where
-          by-request : (f .pending w ≡ true) ⊎ Ready (f .active w) (c .status .nac) (c .interrupt .sip) (c .status .ca) → Told (chosen.Unit w)
+          by-request : (f .pending w ≡ true) ⊎ Ready (f .active w) (c .status .nac) (c .interrupt .sip) (c .status .ca) → Verdict (chosen.Unit w)
           by-request (inl q) = absurd (true≢false (sym q ∙ p))
           by-request (inr r) = moved (my-turn t) (calm (t .calm) (ap (busKeptByTheOther w) (t .bus)) (ap (λ (b : Bool). beginning b w) p)) r
       go _ t p theirs = turned (chosen.Unit (other w)) t (ap not (another w))
