@@ -255,7 +255,7 @@ uint32_t einflyga_line(uint16_t state[EINFLYGA_WORDS], uint32_t channel, bool ac
 /* Acknowledges an interrupt: einflyga_acknowledged_channel, einflyga_has_save, einflyga_answer_value. Refusal 9. */
 uint32_t einflyga_acknowledge(uint16_t state[EINFLYGA_WORDS]);
 
-/* Does one step, with EOP given or not: einflyga_step_kind, _channel and _reasons. Refusals 6 to 8. */
+/* Does one step, with EOP given or not: einflyga_step_kind, _channel, _reasons and _upper. Refusals 6 to 8. */
 uint32_t einflyga_step(uint16_t state[EINFLYGA_WORDS], bool eop, uint8_t *memory, size_t memory_length, uint8_t *io,
                        size_t io_length);
 
@@ -297,6 +297,12 @@ static inline unsigned einflyga_step_channel(uint32_t answer) { return answer >>
 
 /* The set of EINFLYGA_REASON_ bits of a unit. */
 static inline unsigned einflyga_step_reasons(uint32_t answer) { return answer >> 24 & 7; }
+
+/*
+ * How often a unit, 0 to 2, or a fetch, 0 or 1, changed the upper byte (bits 23-16) of an address that it stepped; a wrap
+ * past either end counts. Where a new chain address takes the old one's place nothing steps; nor does a reload from base.
+ */
+static inline unsigned einflyga_step_upper(uint32_t answer) { return answer >> 28 & 3; }
 
 /* Why the channel stands still. */
 static inline enum einflyga_cause einflyga_why_cause(uint32_t answer) {

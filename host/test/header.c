@@ -85,6 +85,53 @@ static void transfer(void) {
     CHECK(einflyga_answer_refusal(einflyga_acknowledge(state)) == EINFLYGA_NOTHING_TO_ACKNOWLEDGE);
 }
 
+/* Changes of the upper address byte: A and then B leave their pages, a fetch wraps, both sides leave at once. */
+static void upper_byte(void) {
+    uint16_t state[EINFLYGA_WORDS];
+    uint8_t memory[MEMORY] = {0};
+    uint32_t answer;
+    uint64_t run;
+
+    einflyga_fresh(state);
+    program_transfer(state);
+    write_at(state, EINFLYGA_PORT_CURRENT_A_LOWER(1), 0xFFFE);
+    write_at(state, EINFLYGA_PORT_CURRENT_B_UPPER(1), 0xFF00 | EINFLYGA_TAG_MEMORY | EINFLYGA_TAG_UP);
+    write_at(state, EINFLYGA_PORT_CURRENT_B_LOWER(1), 0xFFFC);
+    write_at(state, EINFLYGA_PORT_MASTER_MODE, EINFLYGA_MASTER_ENABLE);
+    answer = einflyga_step(state, false, memory, MEMORY, NULL, 0);
+    CHECK(einflyga_step_kind(answer) == EINFLYGA_FETCHED && einflyga_step_upper(answer) == 0);
+    answer = einflyga_step(state, false, memory, MEMORY, NULL, 0);
+    CHECK(einflyga_step_kind(answer) == EINFLYGA_UNIT && einflyga_step_upper(answer) == 1);
+    run = einflyga_run(state, 1, memory, MEMORY, NULL, 0);
+    CHECK(einflyga_run_steps(run) == 1 && einflyga_step_upper(einflyga_run_last(run)) == 1);
+    CHECK(einflyga_step_channel(einflyga_run_last(run)) == 1 && einflyga_step_reasons(einflyga_run_last(run)) == 0);
+    answer = einflyga_step(state, false, memory, MEMORY, NULL, 0);
+    CHECK(einflyga_step_reasons(answer) == EINFLYGA_REASON_TC && einflyga_step_upper(answer) == 0);
+
+    einflyga_fresh(state);
+    program_transfer(state);
+    write_at(state, EINFLYGA_PORT_CURRENT_A_LOWER(1), 0xFFFE);
+    write_at(state, EINFLYGA_PORT_CURRENT_B_LOWER(1), 0xFFFE);
+    write_at(state, EINFLYGA_PORT_CURRENT_COUNT(1), 1);
+    write_at(state, EINFLYGA_PORT_CHAIN_UPPER(1), 0xFF00);
+    write_at(state, EINFLYGA_PORT_CHAIN_LOWER(1), 0xFFFE);
+    write_at(state, EINFLYGA_PORT_MASTER_MODE, EINFLYGA_MASTER_ENABLE);
+    answer = einflyga_step(state, false, memory, MEMORY, NULL, 0);
+    CHECK(einflyga_step_kind(answer) == EINFLYGA_FETCHED && einflyga_step_upper(answer) == 1);
+    CHECK(read_at(state, EINFLYGA_PORT_CHAIN_UPPER(1)) == 0);
+
+    memset(memory, 0, sizeof memory); /* B has wrapped to the table at 0 */
+    einflyga_fresh(state);
+    program_transfer(state);
+    write_at(state, EINFLYGA_PORT_CURRENT_A_LOWER(1), 0xFFFE);
+    write_at(state, EINFLYGA_PORT_CURRENT_B_LOWER(1), 0xFFFE);
+    write_at(state, EINFLYGA_PORT_CURRENT_COUNT(1), 1);
+    write_at(state, EINFLYGA_PORT_MASTER_MODE, EINFLYGA_MASTER_ENABLE);
+    run = einflyga_run(state, 2, memory, MEMORY, NULL, 0);
+    CHECK(einflyga_step_upper(einflyga_run_last(run)) == 2);
+    CHECK(einflyga_step_reasons(einflyga_run_last(run)) == EINFLYGA_REASON_TC);
+}
+
 static const char *words_of_standstill(const uint16_t *state, uint32_t channel) {
     uint32_t answer = einflyga_why(state, channel, MEMORY, 0);
     CHECK(einflyga_answer_refusal(answer) == EINFLYGA_CARRIED_OUT);
@@ -202,6 +249,7 @@ static void standstill(void) {
 
 int main(void) {
     transfer();
+    upper_byte();
     standstill();
     pointer_line_and_reset();
     search_marker(EINFLYGA_MODE_HIGH_STOP_ON_MATCH, 3, EINFLYGA_STATUS_TC);

@@ -32,7 +32,7 @@ use Rattle.space_board.specs.Board.{boardOf}
 use Rattle.space_board.proofs.Laws.{same-board}
 use Rattle.unit.proofs.Laws.{worked-size}
 use Rattle.step.specs.Choice.{choice}
-use Rattle.step.specs.Fetching.{fetchedBy, fetchOf}
+use Rattle.step.specs.Fetching.{afterWord, fetchedBy, fetchOf}
 use Rattle.step.specs.Step.{Outcome, outcome, RunOutcome, ranAs, says, workOf, unitOf, performOf, stepOf}
 use Rattle.step_stride.specs.Stride.{takeTurns, pairOf, rested, unitDone, unitsBy, fetchesBy, single, strideBy, strideOf}
 use Rattle.step_stride.proofs.StrideLaws.{fetchedOn, at-fetched, fetch-again, fetch-joins, unrested, one-unit}
@@ -170,20 +170,20 @@ module _ (w : Which) (u : Controller) (z : Spaces) where
 
   fetch-next : (s : FetchAt) (o : Outcome) → Fetches w u z s o → fetchTurns (z .memory) .follows s (fetchTurns (z .memory) .result s) ≡ true
       → Fetches w u z (fetchTurns (z .memory) .next s (fetchTurns (z .memory) .result s)) (fetch-out (fetchTurns (z .memory) .result s))
-  fetch-next s o p f = by-next (fetchTurns (z .memory) .result s .channel) (fetchTurns (z .memory) .result s .next) f
+  fetch-next s o p f = let l = fetchTurns (z .memory) .result s in by-next (l .channel) (l .next) (l .upper) f
     where
-      by-next : (c : Channel) (n : Next) → goesOn n ≡ true
-          → Fetches w u z (record { stage = stageAfter n (s .stage); channel = c }) (fetch-out (record { channel = c; next = n }))
-      by-next c (More q) g =
+      by-next : (c : Channel) (n : Next) (k : Bool) → goesOn n ≡ true
+          → Fetches w u z (record { stage = stageAfter n (s .stage); channel = c }) (fetch-out (record { channel = c; next = n; upper = k }))
+      by-next c (More q) k g =
           let v = o .stepped .state in
-          let there : fetchedBy w (record { channel = c; next = More q }) u .state ≡ fetchedOn w v c q = ap (λ (y : Stepped). y .state) (sym (p .same (record { channel = c; next = More q }))) in
+          let there : afterWord w c (More q) u ≡ fetchedOn w v c q = ap (λ (y : Stepped). y .state) (sym (p .same (record { channel = c; next = More q; upper = k }))) in
           record {
             chosen = ap (choice (boardOf z)) there ∙ fetch-again w v c q (boardOf z) (s .stage) (sym (ap (λ (x : Spaces). choice (boardOf x) v) (p .spaces)) ∙ p .chosen);
             channel = ap (at w) there ∙ at-fetched w v c q;
             spaces = refl;
             same = λ l. ap (fetchedBy w l) there ∙ fetch-joins w v c q l ∙ p .same l;
           }
-      by-next c Complete g = absurd (true≢false (sym g))
+      by-next c Complete k g = absurd (true≢false (sym g))
 
 -- ---- a stride
 

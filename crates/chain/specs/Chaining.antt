@@ -3,7 +3,7 @@ use Prim.Native.Nat.{ℕ, _%_}
 use mathlib.Core.Bool.{Bool, true, false, not, cond, _&&_}
 use lib.Dec.{eqb}
 use Rattle.word_tag.specs.Tag.{keptChain}
-use Rattle.word_address.specs.Address.{fetchedOn}
+use Rattle.word_address.specs.Address.{fetchedOn, stepTo}
 use Rattle.word_reload.specs.declared.Entry.{Entry}
 use Rattle.word_reload.specs.declared.Entry.the-variants.{CurrentA, CurrentB, CurrentCount, BaseA, BaseB, BaseCount, PatternAndMask, Vector, Mode, ChainAddress, Nothing}
 use Rattle.word_reload.specs.Reload.{entryOf, restOf, isPair}
@@ -17,9 +17,13 @@ use Rattle.word_reload.specs.declared.Next.{Next}
 use Rattle.word_reload.specs.declared.Next.the-variants.{More, Complete}
 use Rattle.chain.specs.declared.Loaded.{Loaded}
 
--- Each fetch adds 2.
+-- Each fetch adds 2 ..
 unfoldable pub advanced : Channel → Channel
 advanced c = c ⟨chain≔ fetchedOn (c .chain) ⟩
+
+-- .. and, by document 02, E5, hands on whether bits 23-16 of the chain address changed.
+unfoldable pub changesUpper : Channel → Bool
+changesUpper c = stepTo (c .chain) (fetchedOn (c .chain)) .upper
 
 -- The chain goes on with the entries that are left, from the first word of the next; or its last word has been fetched.
 abbrev pub goesOn : ℕ → Bool → Next
@@ -44,17 +48,17 @@ isChainAddress Nothing = false
 
 -- The reload word is fetched first; bits 15-10 mean nothing.
 unfoldable pub loadReload : ℕ → Channel → Loaded
-loadReload w c = record { channel = advanced c; next = nextOf (w % 1024) }
+loadReload w c = record { channel = advanced c; next = nextOf (w % 1024); upper = changesUpper c }
 
 -- The first word of two. Until both words of a new chain address are fetched, the old one is used and read.
 abbrev pub loadFirstBy : Bool → Entry → ℕ → ℕ → Channel → Loaded
-loadFirstBy true e left w c = record { channel = advanced c; next = More (record { left = left; second = true; upper = keptChain w }) }
-loadFirstBy false e left w c = record { channel = loaded e false w (advanced c); next = More (record { left = left; second = true; upper = 0 }) }
+loadFirstBy true e left w c = record { channel = advanced c; next = More (record { left = left; second = true; upper = keptChain w }); upper = changesUpper c }
+loadFirstBy false e left w c = record { channel = loaded e false w (advanced c); next = More (record { left = left; second = true; upper = 0 }); upper = changesUpper c }
 
 -- The second word of two, or the only one. A new chain address takes the old one's place unstepped.
 abbrev pub loadLastBy : Bool → Entry → Progress → ℕ → Channel → Loaded
-loadLastBy true e p w c = record { channel = c ⟨chain≔ record { upper = p .upper; lower = w } ⟩; next = nextOf (restOf (p .left)) }
-loadLastBy false e p w c = record { channel = loaded e (p .second) w (advanced c); next = nextOf (restOf (p .left)) }
+loadLastBy true e p w c = record { channel = c ⟨chain≔ record { upper = p .upper; lower = w } ⟩; next = nextOf (restOf (p .left)); upper = false }
+loadLastBy false e p w c = record { channel = loaded e (p .second) w (advanced c); next = nextOf (restOf (p .left)); upper = changesUpper c }
 
 abbrev pub loadEntryBy : Bool → Entry → Progress → ℕ → Channel → Loaded
 loadEntryBy true e p w c = loadFirstBy (isChainAddress e) e (p .left) w c
@@ -78,7 +82,7 @@ settledBy Complete c = c ⟨line≔ c .line ⟨change≔ false ⟩ ⟩
 
 -- A channel whose chain is under way has none pending.
 unfoldable pub fetchedOf : Stage → ℕ → Channel → Loaded
-fetchedOf stage w c = let l = loadOf stage w (c ⟨pending≔ false ⟩) in record { channel = settledBy (l .next) (l .channel); next = l .next }
+fetchedOf stage w c = let l = loadOf stage w (c ⟨pending≔ false ⟩) in record { channel = settledBy (l .next) (l .channel); next = l .next; upper = l .upper }
 
 -- EOP with a chain fetch, the first too: nothing is loaded, the chain address stays, the chain is dropped, CA and NAC are set.
 unfoldable pub droppedOf : Channel → Channel

@@ -1,16 +1,24 @@
 // A chain's word: what it loads, and what the chain fetches after it.
 ghost use mathlib.Core.Path.{_≡_};
 ghost use Rattle.word_reload.specs.declared.Entry.the-variants.{ChainAddress};
-ghost use Rattle.chain.specs.Chaining.{isChainAddress, advanced, nextOf, loadReload, afterRegister, loadEntry, loadOf, settledBy, fetchedOf, droppedOf};
+ghost use Rattle.chain.specs.Chaining.{isChainAddress, advanced, changesUpper, nextOf, loadReload, afterRegister, loadEntry, loadOf, settledBy, fetchedOf, droppedOf};
 use channel::Channel;
 use word_reload::Entry;
 use word_reload::Next;
 use word_reload::Progress;
 use word_reload::Stage;
 
+// A channel after a word of its chain, what comes next, and whether bits 23-16 of the chain address changed.
 pub struct Loaded {
     pub channel: Channel,
     pub next: Next,
+    pub upper: bool,
+}
+
+// A channel whose chain address has stepped, and whether bits 23-16 changed.
+struct Advanced {
+    channel: Channel,
+    upper: bool,
 }
 
 fn is_chain_address(e: Entry) -> bool
@@ -31,12 +39,16 @@ fn is_chain_address(e: Entry) -> bool
     }
 }
 
-fn advance(mut c: Channel) -> Channel
-    ensures { λ r. ⌜ r ≡ advanced c ⌝ }
+fn advance(mut c: Channel) -> Advanced
+    ensures { λ r. ⌜ (r .channel ≡ advanced c) × (r .upper ≡ changesUpper c) ⌝ }
 {
-    let chain = c.chain.fetched();
+    let step = c.chain.fetched();
+    let chain = step.next;
     c.chain = chain;
-    c
+    Advanced {
+        channel: c,
+        upper: step.upper,
+    }
 }
 
 fn what_next(left: u16) -> Next
@@ -56,9 +68,12 @@ fn what_next(left: u16) -> Next
 fn load_reload(w: u16, c: Channel) -> Loaded
     ensures { λ r. ⌜ r ≡ loadReload w c ⌝ }
 {
+    let on = advance(c);
+    let channel = on.channel;
     Loaded {
-        channel: advance(c),
+        channel,
         next: what_next(w % 1024),
+        upper: on.upper,
     }
 }
 
@@ -72,15 +87,19 @@ fn load_address(p: Progress, w: u16, mut c: Channel) -> Loaded
         return Loaded {
             channel: c,
             next: what_next(word_reload::rest(p.left)),
+            upper: false,
         };
     }
+    let on = advance(c);
+    let channel = on.channel;
     Loaded {
-        channel: advance(c),
+        channel,
         next: Next::More(Progress {
             left: p.left,
             second: true,
             upper: word_tag::kept_chain(w),
         }),
+        upper: on.upper,
     }
 }
 
@@ -106,9 +125,11 @@ fn load_entry(e: Entry, p: Progress, w: u16, c: Channel) -> Loaded
     if is_chain_address(e) {
         return load_address(p, w, c);
     }
+    let on = advance(c);
     Loaded {
-        channel: channel_loading::load(e, p.second, w, advance(c)),
+        channel: channel_loading::load(e, p.second, w, on.channel),
         next: after_register(e, p),
+        upper: on.upper,
     }
 }
 
@@ -144,6 +165,7 @@ pub fn fetch(stage: Stage, w: u16, mut c: Channel) -> Loaded
     Loaded {
         channel: settle(next, l.channel),
         next,
+        upper: l.upper,
     }
 }
 

@@ -36,7 +36,7 @@ fetchTurns m = record {
 }
 
 abbrev pub fetchedAs : Fetched → Row Loaded
-fetchedAs r = record { last = record { channel = r .channel; next = r .next }; count = r .words }
+fetchedAs r = record { last = record { channel = r .channel; next = r .next; upper = r .upper }; count = r .words }
 
 -- With `done` words fetched, one, and of up to `more` each that follows.
 abbrev pub fetchesOf : List ℕ → ℕ → ℕ → Stage → Channel → Row Loaded

@@ -8,10 +8,11 @@ use space::Width;
 use word_reload::Next;
 use word_reload::Stage;
 
-// The channel after the last word, what comes next, and how many words there were.
+// The channel after the last word, what comes next, whether the last changed bits 23-16, and how many words there were.
 pub struct Fetched {
     pub channel: Channel,
     pub next: Next,
+    pub upper: bool,
     pub words: u32,
 }
 
@@ -22,6 +23,7 @@ pub fn fetch_on(first: Stage, limit: u32, c: Channel, memory: &[u8]) -> Fetched
     let mut channel = c;
     let mut stage = first;
     let mut next = Next::Complete;
+    let mut upper = false;
     let mut words: u32 = 0;
     let mut going = true;
     while going {
@@ -29,6 +31,7 @@ pub fn fetch_on(first: Stage, limit: u32, c: Channel, memory: &[u8]) -> Fetched
         let l = chain::fetch(stage, word, channel);
         channel = l.channel;
         next = l.next;
+        upper = l.upper;
         words += 1;
         match next {
             Next::More(p) => {
@@ -43,6 +46,7 @@ pub fn fetch_on(first: Stage, limit: u32, c: Channel, memory: &[u8]) -> Fetched
     Fetched {
         channel,
         next,
+        upper,
         words,
     }
 }

@@ -1,7 +1,8 @@
 -- The console's language: what each answer prints. Assumes nothing.
 use Prim.Native.Nat.{ℕ}
-use mathlib.Core.Bool.{Bool, true, false}
+use mathlib.Core.Bool.{Bool, true, false, not}
 use mathlib.Core.List.{List, []}
+use lib.Dec.{eqb}
 use Rattle.word_mode.specs.declared.Reasons.{Reasons}
 use Rattle.step.specs.declared.Answer.{Answer}
 use Rattle.step.specs.declared.Answer.the-variants as answer
@@ -29,16 +30,20 @@ ifSo false words = []
 unfoldable pub reasonsOf : Reasons → List ℕ
 reasonsOf why = ifSo (why .tc) (bytes " TC") ⧺ ifSo (why .mc) (bytes " MC") ⧺ ifSo (why .eop) (bytes " EOP")
 
--- an answer of a step: its channel, its name, and its end reasons
+-- how often the upper address byte changed, where it did
+unfoldable pub upperOf : ℕ → List ℕ
+upperOf changes = ifSo (not (eqb changes 0)) (bytes " upper " ⧺ decimalOf changes)
+
+-- an answer of a step: its channel, its name, its end reasons and its changes of the upper address byte
 unfoldable pub answerOf : Answer → List ℕ
 answerOf (answer.Refused n) = refusalOf n
 answerOf answer.Disabled = bytes "0 disabled"
 answerOf answer.Idle = bytes "0 idle"
 answerOf (answer.GivenBack b) = bytes "0 given back"
 answerOf (answer.Holding w) = channelOf w ⧺ bytes " holding"
-answerOf (answer.Fetched w d) = channelOf w ⧺ bytes " fetched"
+answerOf (answer.Fetched w d) = channelOf w ⧺ bytes " fetched" ⧺ ifSo (d .upper) (bytes " upper 1")
 answerOf (answer.Dropped w) = channelOf w ⧺ bytes " dropped"
-answerOf (answer.Unit w d) = channelOf w ⧺ bytes " unit" ⧺ reasonsOf (d .why)
+answerOf (answer.Unit w d) = channelOf w ⧺ bytes " unit" ⧺ reasonsOf (d .why) ⧺ upperOf (d .upper)
 answerOf (answer.Ended w) = channelOf w ⧺ bytes " ended"
 
 unfoldable pub writeOf : Writing → List ℕ

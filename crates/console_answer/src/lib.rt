@@ -3,7 +3,7 @@ ghost use mathlib.Core.Path.{_≡_};
 ghost use mathlib.Core.List.{_++_};
 ghost use Rattle.text_scan.specs.Words.{bytes};
 ghost use Rattle.text_print.specs.Text.{written, appended, line, channelOf};
-ghost use Rattle.console_answer.specs.Wording.{ifSo, reasonsOf, answerOf, writeOf, readOf, levelOf, lineOf, acknowledgeOf, runOf, causeOf, whyOf};
+ghost use Rattle.console_answer.specs.Wording.{ifSo, reasonsOf, upperOf, answerOf, writeOf, readOf, levelOf, lineOf, acknowledgeOf, runOf, causeOf, whyOf};
 use call_acknowledge::AckAnswer;
 use call_command::Writing;
 use call_line::LineAnswer;
@@ -15,6 +15,7 @@ use step::Answer;
 use text_print::Text;
 use word_mode::Reasons;
 
+// A word where it applies.
 fn reason(t: Text, applies: bool, name: &[u8]) -> Text
     ensures { λ r. ⌜ written r ≡ appended (written t) (ifSo applies (now (name .entry))) ⌝ }
 {
@@ -34,6 +35,16 @@ fn reasons(t: Text, why: Reasons) -> Text
     )
 }
 
+// How often the upper address byte changed, where it did.
+fn upper(t: Text, changes: u16) -> Text
+    ensures { λ r. ⌜ written r ≡ appended (written t) (upperOf changes) ⌝ }
+{
+    if changes == 0 {
+        return t;
+    }
+    t.with(b" upper ").decimal(changes as u64)
+}
+
 fn answer(t: Text, a: Answer) -> Text
     ensures { λ r. ⌜ written r ≡ appended (written t) (answerOf a) ⌝ }
 {
@@ -43,9 +54,9 @@ fn answer(t: Text, a: Answer) -> Text
         Answer::Idle => t.with(b"0 idle"),
         Answer::GivenBack(_) => t.with(b"0 given back"),
         Answer::Holding(w) => t.channel(w).with(b" holding"),
-        Answer::Fetched(w, _) => t.channel(w).with(b" fetched"),
+        Answer::Fetched(w, d) => reason(t.channel(w).with(b" fetched"), d.upper, b" upper 1"),
         Answer::Dropped(w) => t.channel(w).with(b" dropped"),
-        Answer::Unit(w, d) => reasons(t.channel(w).with(b" unit"), d.why),
+        Answer::Unit(w, d) => upper(reasons(t.channel(w).with(b" unit"), d.why), d.upper),
         Answer::Ended(w) => t.channel(w).with(b" ended"),
     }
 }

@@ -1,5 +1,6 @@
 -- Each answer as one number, for a host: bits 7-0 are document 01's refusal number, or 0. Assumes nothing.
-use Prim.Native.Nat.{ℕ, _+_, _*_}
+use Prim.Native.Nat.{ℕ, _+_, _*_, _%_}
+use mathlib.Core.Bool.{Bool}
 use Rattle.port.specs.declared.Which.{Which}
 use Rattle.port.specs.declared.Which.the-variants.{One, Two}
 use Rattle.word_mode.specs.declared.Reasons.{Reasons}
@@ -20,9 +21,14 @@ use Rattle.standstill.specs.declared.WhyAnswer.the-variants as standstill
 use Rattle.standstill.specs.Answers.{causeNumber}
 use Rattle.facts.specs.Bits.{bitIf}
 
--- The upper half of a unit's answer: the channel, and the end reasons TC, MC, EOP from bit 8 up.
-abbrev pub unitHalf : ℕ → Reasons → ℕ
-unitHalf channel why = channel + bitIf (why .tc) 0x100 + bitIf (why .mc) 0x200 + bitIf (why .eop) 0x400
+-- The upper half of a unit's answer: the channel, the end reasons TC, MC, EOP from bit 8 up, and in bits 13-12 the number of changes of
+-- bits 23-16, which is at most 2.
+abbrev pub unitHalf : ℕ → Reasons → ℕ → ℕ
+unitHalf channel why upper = channel + bitIf (why .tc) 0x100 + bitIf (why .mc) 0x200 + bitIf (why .eop) 0x400 + upper % 4 * 0x1000
+
+-- .. and of a fetch's: it has no end reasons.
+abbrev pub fetchHalf : ℕ → Bool → ℕ
+fetchHalf channel upper = channel + bitIf upper 0x1000
 
 -- A kind in bits 15-8, and the upper half in bits 31-16.
 abbrev pub packed : ℕ → ℕ → ℕ
@@ -35,9 +41,9 @@ stepNumber Idle = packed 1 0
 stepNumber (GivenBack Note) = packed 2 0
 stepNumber (GivenBack Bus) = packed 3 0
 stepNumber (Holding w) = packed 4 (channelNumber w)
-stepNumber (Fetched w d) = packed 5 (channelNumber w)
+stepNumber (Fetched w d) = packed 5 (fetchHalf (channelNumber w) (d .upper))
 stepNumber (Dropped w) = packed 6 (channelNumber w)
-stepNumber (Unit w d) = packed 7 (unitHalf (channelNumber w) (d .why))
+stepNumber (Unit w d) = packed 7 (unitHalf (channelNumber w) (d .why) (d .upper))
 stepNumber (Ended w) = packed 8 (channelNumber w)
 
 -- The number of steps stands above the last answer's 32 bits.

@@ -2,7 +2,7 @@
 ghost use mathlib.Core.Path.{_≡_};
 ghost use Rattle.step.specs.Answers.{channelNumber};
 ghost use Rattle.standstill.specs.Answers.{causeNumber};
-ghost use Rattle.host_answer.specs.Numbers.{unitHalf, wordKind, stepNumber, runNumber, readNumber, writeNumber, lineNumber, ackNumber, whyNumber, packed};
+ghost use Rattle.host_answer.specs.Numbers.{unitHalf, fetchHalf, wordKind, stepNumber, runNumber, readNumber, writeNumber, lineNumber, ackNumber, whyNumber, packed};
 use call_acknowledge::AckAnswer;
 use call_command::Writing;
 use call_line::LineAnswer;
@@ -23,14 +23,22 @@ fn channel_number(w: Which) -> u8
     }
 }
 
-// The upper half of a unit's answer: the channel, and the end reasons above it.
-fn unit_half(channel: u8, why: Reasons) -> u16
-    ensures { λ r. ⌜ r ≡ unitHalf channel why ⌝ }
+// The upper half of a unit's answer: the channel, the end reasons above it, and the number of changes of bits 23-16 above them.
+fn unit_half(channel: u8, why: Reasons, upper: u16) -> u16
+    ensures { λ r. ⌜ r ≡ unitHalf channel why upper ⌝ }
 {
     channel as u16
         + facts::worth(why.tc, 0x100)
         + facts::worth(why.mc, 0x200)
         + facts::worth(why.eop, 0x400)
+        + upper % 4 * 0x1000
+}
+
+// A fetch has no end reasons.
+fn fetch_half(channel: u8, upper: bool) -> u16
+    ensures { λ r. ⌜ r ≡ fetchHalf channel upper ⌝ }
+{
+    channel as u16 + facts::worth(upper, 0x1000)
 }
 
 // A kind in bits 15-8, and the upper half.
@@ -52,9 +60,9 @@ pub fn step_number(a: Answer) -> u32
             Back::Bus => pack(3, 0),
         },
         Answer::Holding(w) => pack(4, channel_number(w) as u16),
-        Answer::Fetched(w, _) => pack(5, channel_number(w) as u16),
+        Answer::Fetched(w, d) => pack(5, fetch_half(channel_number(w), d.upper)),
         Answer::Dropped(w) => pack(6, channel_number(w) as u16),
-        Answer::Unit(w, d) => pack(7, unit_half(channel_number(w), d.why)),
+        Answer::Unit(w, d) => pack(7, unit_half(channel_number(w), d.why, d.upper)),
         Answer::Ended(w) => pack(8, channel_number(w) as u16),
     }
 }

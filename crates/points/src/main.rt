@@ -1,5 +1,6 @@
 // The points of document 01 that are run, and the data sheet's initialization program and reload table (Figures 23 and 24), each
-// compared with what it should be; then what comparisons tell (document 02, E2), as the status has it.
+// compared with what it should be; then what comparisons tell (document 02, E2), as the status has it, and how often the upper address byte
+// changes (E5).
 use call_command::Writing;
 use call_command::Written;
 use call_read::Reading;
@@ -381,6 +382,129 @@ fn say_comparisons() {
     say_each_control(b"byte search", 0x0F, BYTES);
 }
 
+// Channel 1 with both current addresses at one place, about to fetch from there or, where that is 0, an empty table.
+fn placed(
+    operation: u16,
+    upper: u16,
+    lower: u16,
+    chain_upper: u16,
+    chain_lower: u16,
+) -> Controller {
+    let a = state_after(call_reset::fresh(), 0x1A, upper);
+    let b = state_after(a, 0x0A, lower);
+    let c = state_after(b, 0x12, upper);
+    let d = state_after(c, 0x02, lower);
+    let e = state_after(d, 0x32, 9);
+    let f = state_after(e, 0x52, 0x0020 | operation);
+    let g = state_after(f, 0x26, chain_upper);
+    let h = state_after(g, 0x22, chain_lower);
+    let i = state_after(h, 0x2E, 0x00A0);
+    let j = state_after(i, 0x2E, 0x0042);
+    state_after(j, 0x38, 1)
+}
+
+// What an answer tells of the upper address byte; 9 is not told.
+fn changes_in(a: Answer) -> u16 {
+    match a {
+        Answer::Fetched(_, d) => d.upper as u16,
+        Answer::Unit(_, d) => d.upper,
+        _ => 9,
+    }
+}
+
+// The changes of one unit, by a run and by a single step; 8 is where they differ.
+fn unit_changes(operation: u16, upper: u16, lower: u16) -> u16 {
+    let mut memory = [0u8; 2];
+    let mut ports = [0u8; 1];
+    let u = placed(operation, upper, lower, 0, 0);
+    let whole = call_run::run(u, 2, &mut memory, &mut ports);
+    let ran = whole.answer;
+    let mut anew = [0u8; 2];
+    let first = call_run::run(u, 1, &mut anew, &mut ports);
+    let v = first.state;
+    let second = v.step(false, &mut anew, &mut ports);
+    let stepped = second.answer;
+    let by_run = changes_in(ran);
+    let by_step = changes_in(stepped);
+    if by_run == by_step { by_run } else { 8 }
+}
+
+fn fetch_changes(upper: u16, lower: u16) -> u16 {
+    let mut memory = [0u8; 2];
+    let mut ports = [0u8; 1];
+    let u = placed(0, 0x0050, 0, upper, lower);
+    let r = call_run::run(u, 1, &mut memory, &mut ports);
+    let a = r.answer;
+    changes_in(a)
+}
+
+fn say_number(n: u16) {
+    io::write_all(STDOUT_FILENO, b" ");
+    say_digit(n);
+}
+
+// The changes of a unit from both ends of a page and of all addresses.
+fn say_from_the_ends(operation: u16, tag: u16, last: u16) {
+    say_number(unit_changes(operation, tag, last));
+    say_number(unit_changes(operation, 0x0100 | tag, 0));
+    say_number(unit_changes(operation, 0xFF00 | tag, last));
+    say_number(unit_changes(operation, tag, 0));
+}
+
+// A line: memory and I/O, upwards, downwards and holding.
+fn say_changes(name: &[u8], operation: u16, last: u16) {
+    io::write_all(STDOUT_FILENO, name);
+    io::write_all(STDOUT_FILENO, b": memory up");
+    say_from_the_ends(operation, 0x0040, last);
+    io::write_all(STDOUT_FILENO, b", down");
+    say_from_the_ends(operation, 0x0048, last);
+    io::write_all(STDOUT_FILENO, b", hold");
+    say_from_the_ends(operation, 0x0050, last);
+    io::write_all(STDOUT_FILENO, b"; I/O up");
+    say_from_the_ends(operation, 0x0000, last);
+    io::write_all(STDOUT_FILENO, b", down");
+    say_from_the_ends(operation, 0x0008, last);
+    io::write_all(STDOUT_FILENO, b"\n");
+}
+
+fn say_word_changes() {
+    say_changes(b"word transfer", 0x00, 0xFFFE);
+    say_changes(b"word transfer, flipped", 0x10, 0xFFFE);
+    say_changes(b"word transfer-and-search", 0x04, 0xFFFE);
+    say_changes(b"word transfer-and-search, flipped", 0x14, 0xFFFE);
+    say_changes(b"word search", 0x0E, 0xFFFE);
+    say_changes(b"word search, flipped", 0x1E, 0xFFFE);
+}
+
+fn say_byte_changes() {
+    say_changes(b"byte transfer", 0x01, 0xFFFF);
+    say_changes(b"byte transfer, flipped", 0x11, 0xFFFF);
+    say_changes(b"byte transfer-and-search", 0x05, 0xFFFF);
+    say_changes(b"byte transfer-and-search, flipped", 0x15, 0xFFFF);
+    say_changes(b"byte search", 0x0F, 0xFFFF);
+    say_changes(b"byte search, flipped", 0x1F, 0xFFFF);
+}
+
+fn say_funnel_changes() {
+    say_changes(b"bytes funnelled to words, 8", 0x08, 0xFFFE);
+    say_changes(b"bytes funnelled to words, 9", 0x09, 0xFFFE);
+    say_changes(b"bytes funnelled to words, C", 0x0C, 0xFFFE);
+    say_changes(b"bytes funnelled to words, D", 0x0D, 0xFFFE);
+    say_changes(b"words funnelled to bytes, 8", 0x18, 0xFFFE);
+    say_changes(b"words funnelled to bytes, 9", 0x19, 0xFFFE);
+    say_changes(b"words funnelled to bytes, C", 0x1C, 0xFFFE);
+    say_changes(b"words funnelled to bytes, D", 0x1D, 0xFFFE);
+}
+
+fn say_fetch_changes() {
+    io::write_all(STDOUT_FILENO, b"fetch:");
+    say_number(fetch_changes(0x0000, 0xFFFE));
+    say_number(fetch_changes(0x0100, 0x0000));
+    say_number(fetch_changes(0xFF00, 0xFFFE));
+    say_number(fetch_changes(0x0000, 0x0000));
+    io::write_all(STDOUT_FILENO, b"\n");
+}
+
 fn main() {
     say(b"C0h at 2E is 3", is_fresh_write_refused(0x2E, 0x00C0, 3));
     say(b"26h at 2C is 4", is_fresh_write_refused(0x2C, 0x0026, 4));
@@ -392,4 +516,12 @@ fn main() {
     let mut ports = [0u8; 8192];
     say_what_runs(&mut bytes, &mut ports);
     say_comparisons();
+    io::write_all(
+        STDOUT_FILENO,
+        b"changes of bits 23-16 from 00FFFF, 010000, FFFFFF and 000000; words, funnels and fetches from 00FFFE and FFFFFE\n",
+    );
+    say_word_changes();
+    say_byte_changes();
+    say_funnel_changes();
+    say_fetch_changes();
 }

@@ -6,6 +6,7 @@ use mathlib.Core.List.{[]}
 use Prim.Native.Nat.{ℕ, zero, suc, _-_, _≤_, _<_}
 use native.Mathlib.Omega.{arith}
 use lib.Dec.{eqb}
+use Rattle.facts.specs.Bits.{bitIf}
 use Rattle.space.specs.declared.Width.{Width}
 use Rattle.space.specs.Space.{Spaces, get}
 use Rattle.space.specs.Bytes.{bytesAt, valueOf, gets}
@@ -20,27 +21,27 @@ use Rattle.unit_count.specs.Count.{fewer, terminal}
 use Rattle.unit_count.proofs.Laws.{last-terminal}
 use Rattle.word_address.specs.declared.Address.{Address}
 use Rattle.word_address.specs.declared.Set.{Set}
-use Rattle.word_address.specs.Address.{placeOf, steppedOn, sourceOf}
+use Rattle.word_address.specs.Address.{placeOf, steppedOn, stepTo, sourceOf}
 use Rattle.word_operation.specs.declared.Operation.{Operation}
 use Rattle.word_operation.specs.declared.Moves.the-variants as moves
 use Rattle.word_operation.specs.Operation.{comparing}
 use Rattle.word_mode.specs.declared.Reasons.{Reasons}
 use Rattle.word_mode.specs.Mode.{operationOf, isFlipped, matchControl, reloadOf}
 use Rattle.word_mode.specs.Reasons.{some, enabledFor}
-use Rattle.unit_accesses.specs.Accesses.{bytes, readsOf, datumOf, datumAt, storedAt, steppedSet}
+use Rattle.unit_accesses.specs.Accesses.{bytes, readsOf, datumOf, datumAt, storedAt, steppedSet, upperChanges}
 use Rattle.unit.specs.Unit.{compared, movedOf, worked}
 use Rattle.channel.specs.declared.Channel.{Channel}
 use Rattle.channel.proofs.Laws.{ends-exactly}
 use Rattle.channel.specs.Ending.{reasonsOf}
 use Rattle.step_rules.specs.declared.Choice.the-variants as chosen
-use Rattle.step.specs.Answers.{Paper, paper}
+use Rattle.step.specs.Answers.{Paper, unit, channelNumber, paper}
 use Rattle.step.specs.Step.{workOf, performOf}
 use Rattle.port.specs.declared.Which.{Which}
 use Rattle.promises.specs.Machine.{Machine, answer, channel, unit-reads}
 use Rattle.promises.specs.Calls.{Moment, next}
 use Rattle.promises.specs.Own.{unit-next, Away, made}
 use Rattle.promises.proofs.Seen.{ends-of, seen, done-counts}
-use Rattle.promises.specs.Demand2b.{Search, place, condition, hit, SearchStretch, unit-ended, reasons-of, UnitSearched, Demand2b}
+use Rattle.promises.specs.Demand2b.{Search, place, condition, hit, SearchStretch, changed, unit-ended, reasons-of, UnitSearched, Demand2b}
 use Rattle.promises.specs.Paced.{stepped}
 use Rattle.promises.proofs.Own.{LeftAlone, by}
 use Rattle.promises.proofs.Stretch.{keeps-next, owned, unit-is}
@@ -62,6 +63,10 @@ search-steps : (d : Width) (flip : Bool) (s : Set) → sourceOf flip (steppedSet
 unfolding steppedSet
 search-steps d true s = refl
 search-steps d false s = refl
+
+search-changes : (d : Width) (flip : Bool) (s : Set) → upperChanges (moves.Search d) flip s ≡ bitIf (stepTo (sourceOf flip s) (steppedOn d (sourceOf flip s)) .upper) 1
+unfolding upperChanges
+search-changes d flip s = omega arith
 
 none-ended : (e : Ends) → ended e ≡ false → e ≡ record { mc = false; tc = false }
 none-ended e h = go (e .mc) (e .tc) h
@@ -113,6 +118,14 @@ module _ (s : Search) (fits : s .units ≤ 65536) where
     mc = compared (h .underway .operation i) (datum-is k (x .machine) h i) (h .pattern-is i) (h .mask-is i) (h .control-is i) (workOf (channel w (x .machine)) .kept) .met;
     tc = (ap (λ (c : ℕ). terminal (fewer c)) (h .underway .count) ∙ last-terminal n k fits b) i;
   }
+
+  -- and its changes of bits 23-16 are those of the step after its datum
+  changes-at : (k : ℕ) (m : Machine) → SearchAt s k m → made w m .upper ≡ bitIf (changed s k) 1
+  unfolding worked movedOf
+  changes-at k m h =
+      ap (λ (o : Operation). upperChanges (o .moves) (flip m) (channel w m .current)) (h .underway .operation)
+      ∙ search-changes (s .width) (flip m) (channel w m .current)
+      ∙ ap (λ (x : Address). bitIf (stepTo x (steppedOn (s .width) x) .upper) 1) (h .source)
 
   -- unended, it goes on to the next datum
   next-at : (k : ℕ) (m : Machine) → k < n → SearchAt s k m → some (reasonsOf (made w m) false) ≡ false → SearchAt s (suc k) (by (chosen.Unit w) m)
@@ -196,9 +209,9 @@ module _ (s : Search) (fits : s .units ≤ 65536) where
 by-number : (s : Search) (stop i : ℕ) (x : Moment) → SearchStretch s stop i x
     → UnitSearched s stop (done (seen (s .channel)) i x) (x .machine .spaces) (iter next i x .machine) (next (iter next i x) .machine)
 by-number s stop i x h = record {
-  going = λ b. said ∙ ap (λ (e : Ends). unit-ended s (why-of e)) (none-ended (ends-of (made w m)) (upto (omega arith) .before b));
-  reasons = λ q. said ∙ ap (unit-ended s) (why q);
-  stops = λ q. ap (λ (p : Paper). some (p .why)) said ∙ ends q;
+  going = λ b. said (omega arith) ∙ ap (λ (e : Ends). unit-ended s (done (seen w) i x) (why-of e)) (none-ended (ends-of (made w m)) (upto (omega arith) .before b));
+  reasons = λ q. said (omega arith) ∙ (λ j. unit-ended s (q j) (why q j));
+  stops = λ q. ap (λ (p : Paper). some (p .why)) (said (omega arith)) ∙ ends q;
   count = counted;
   left = λ q r. ap (λ (y : Machine). channel w y .current .count) (unit-is w (iter next i x) (h .mine))
       ∙ ap (λ (c : Set). c .count) (ended-current w m (ends q) (ap (λ (e : Reasons). enabledFor (reloadOf (channel w m .mode)) e) (why q) ∙ r)) ∙ counted q;
@@ -231,8 +244,13 @@ by-number s stop i x h = record {
     upto : done (seen w) i x ≤ stop → Found (seen w) (hit s (x .machine .spaces)) (s .units) stop i x
     upto b = found s fits stop x (h .first) at-start i (h .untouched) (going-on b) (h .mine)
 
-    said : paper (answer m) ≡ unit-ended s (reasonsOf (made w m) false)
-    said = unit-answer w m (owned w (iter next i x) (h .mine))
+    now-at : done (seen w) i x ≤ stop → SearchAt s (done (seen w) i x) m
+    now-at b = let below = h .first .below in stands s fits i zero x at-start earlier (going-on b) (omega arith)
+
+    said : done (seen w) i x ≤ stop → paper (answer m) ≡ unit-ended s (done (seen w) i x) (reasonsOf (made w m) false)
+    said b =
+        unit-answer w m (owned w (iter next i x) (h .mine))
+        ∙ ap (λ (k : ℕ). record { number = 0; name = unit; channel = channelNumber w; why = reasonsOf (made w m) false; upper = k }) (changes-at s fits (done (seen w) i x) m (now-at b))
 
     why : done (seen w) i x ≡ stop → reasonsOf (made w m) false ≡ reasons-of s (x .machine .spaces) stop
     why q = ap why-of (upto (omega arith) .reasons ∙ ap (outcome (hit s (x .machine .spaces)) (s .units)) q)
@@ -243,8 +261,7 @@ by-number s stop i x h = record {
     counted : done (seen w) i x ≡ stop → made w m .set .count ≡ s .units - 1 - stop
     counted q =
         let below = h .first .below in
-        let stands-at = stands s fits i zero x at-start earlier (going-on (omega arith)) (omega arith) in
-        let c = count-made w (operation s) (s .units) (done (seen w) i x) m fits (omega arith) (stands-at .underway) in
+        let c = count-made w (operation s) (s .units) (done (seen w) i x) m fits (omega arith) (now-at (omega arith) .underway) in
         omega (arith, fits)
 
 pub demand2b : Demand2b

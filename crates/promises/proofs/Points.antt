@@ -55,6 +55,7 @@ points = record {
   p4 = refl;
   p5 = refl;
   p6 = refl;
+  e5 = (refl, refl, refl, refl, refl);
   p7 = λ w datum. (refl, refl);
   p8 = λ w datum. (refl, refl);
   p9 = refl;

@@ -67,7 +67,7 @@ controller one two = record { pointer = 0; master = 1; control = record { chain 
 abbrev pub EndsThird : Search → ℕ → Moment → Type 0
 EndsThird s i x =
     SearchStretch s 2 i x × (units-before (s .channel) i x ≡ 2)
-    × (paper (answer (iter next i x .machine)) ≡ record { number = 0; name = unit; channel = channelNumber (s .channel); why = record { tc = false; mc = true; eop = false } })
+    × (paper (answer (iter next i x .machine)) ≡ record { number = 0; name = unit; channel = channelNumber (s .channel); why = record { tc = false; mc = true; eop = false }; upper = 0 })
     × (channel (s .channel) (next (iter next i x) .machine) .current .count ≡ 2)
 
 -- a call that does no unit of the other channel

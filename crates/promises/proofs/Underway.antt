@@ -47,9 +47,9 @@ prog w = record { reads = λ m. unit-reads (channel w m); writes = λ m. unit-wr
 
 -- ---- a unit
 
--- its answer has the end reasons that it has
+-- its answer has the end reasons that it has, and its changes of bits 23-16
 pub unit-answer : (w : Which) (m : Machine) → owns w (next-choice m) ≡ true
-    → paper (answer m) ≡ record { number = 0; name = unit; channel = channelNumber w; why = reasonsOf (made w m) false }
+    → paper (answer m) ≡ record { number = 0; name = unit; channel = channelNumber w; why = reasonsOf (made w m) false; upper = made w m .upper }
 unfolding stepOf performOf unitOf
 unit-answer w m e = ap (λ (c : Choice). paper (performOf c false (m .controller) (m .spaces) .stepped .answer)) (owns-unit w (next-choice m) e)
 

@@ -258,15 +258,15 @@ by-software m l e q s = go (isRequested m) (not (isMasked m)) (arrived (requestM
     go false true d f p = no f p
     go false false d f p = p
 
-settled-well : (x : Next) (c : Channel) → LoadedWell (record { channel = c; next = x }) → FetchedWell (record { channel = settledBy x c; next = x })
-settled-well (More p) c h = record { tidy = h .tidy; clear = h .clear; half = h .half; software = λ f. absurd f }
-settled-well Complete c h = record { tidy = h .tidy; clear = h .clear; half = tt; software = λ f q. by-software (c .mode) (c .line ⟨change≔ false ⟩) refl q }
+settled-well : (x : Next) (c : Channel) (k : Bool) → LoadedWell (record { channel = c; next = x; upper = k }) → FetchedWell (record { channel = settledBy x c; next = x; upper = k })
+settled-well (More p) c k h = record { tidy = h .tidy; clear = h .clear; half = h .half; software = λ f. absurd f }
+settled-well Complete c k h = record { tidy = h .tidy; clear = h .clear; half = tt; software = λ f q. by-software (c .mode) (c .line ⟨change≔ false ⟩) refl q }
 
 pub fetched-well : (s : Stage) (w : ℕ) (c : Channel) → TidyStage s → Tidy c → Clear (c ⟨pending≔ false ⟩) → FetchedWell (fetchedOf s w c)
 unfolding fetchedOf
 fetched-well s w c q t h =
     let l = loadOf s w (c ⟨pending≔ false ⟩) in
-    settled-well (l .next) (l .channel) (load-well (c ⟨pending≔ false ⟩) t h s w q)
+    settled-well (l .next) (l .channel) (l .upper) (load-well (c ⟨pending≔ false ⟩) t h s w q)
 
 pub dropped-sound : (c : Channel) → Tidy c → c .interrupt .sip ≡ false → Sound (droppedOf c)
 unfolding droppedOf

@@ -38,12 +38,14 @@ pub data Call : Type 0 where
   run : ℕ → Call
   why : ℕ → Call
 
--- What a call answers, as document 01 gives it: the refusal number or 0; a channel or 0; end reasons; whether a word is given; the word or 0;
--- of a run how many steps came before the one that it answers; and why a channel stands still, 0 being nothing wrong.
+-- What a call answers, as document 01 gives it: the refusal number or 0; a channel or 0; end reasons; how often bits 23-16 of an address changed
+-- (document 02, E5); whether a word is given; the word or 0; of a run how many steps came before the one that it answers; and why a channel
+-- stands still, 0 being nothing wrong.
 pub record Told : Type 0 where
   pub number : ℕ
   pub channel : ℕ
   pub why : Reasons
+  pub upper : ℕ
   pub given : Bool
   pub word : ℕ
   pub steps : ℕ
@@ -51,19 +53,19 @@ pub record Told : Type 0 where
 
 -- every value is 0 but the number, and a run's steps
 abbrev pub only : ℕ → ℕ → Told
-only n k = record { number = n; channel = 0; why = none; given = false; word = 0; steps = k; cause = 0 }
+only n k = record { number = n; channel = 0; why = none; upper = 0; given = false; word = 0; steps = k; cause = 0 }
 
 abbrev pub word-told : PaperRead → Told
-word-told p = record { number = p .number; channel = 0; why = none; given = false; word = p .word; steps = 0; cause = 0 }
+word-told p = record { number = p .number; channel = 0; why = none; upper = 0; given = false; word = p .word; steps = 0; cause = 0 }
 
 abbrev pub ack-told : PaperAck → Told
-ack-told p = record { number = p .number; channel = p .channel; why = none; given = p .given; word = p .word; steps = 0; cause = 0 }
+ack-told p = record { number = p .number; channel = p .channel; why = none; upper = 0; given = p .given; word = p .word; steps = 0; cause = 0 }
 
 abbrev pub step-told : Paper → ℕ → Told
-step-told p k = record { number = p .number; channel = p .channel; why = p .why; given = false; word = 0; steps = k; cause = 0 }
+step-told p k = record { number = p .number; channel = p .channel; why = p .why; upper = p .upper; given = false; word = 0; steps = k; cause = 0 }
 
 abbrev pub why-told : PaperWhy → Told
-why-told p = record { number = p .number; channel = 0; why = none; given = false; word = 0; steps = 0; cause = p .cause }
+why-told p = record { number = p .number; channel = 0; why = none; upper = 0; given = false; word = 0; steps = 0; cause = p .cause }
 
 -- ---- the outcome of a call: its answer and the machine after it
 

@@ -6,6 +6,7 @@ use mathlib.Core.Bool.{Bool, true, false}
 use mathlib.Core.List.{List, []}
 use Prim.Native.Nat.{ℕ, suc, _-_, _<_}
 use lib.Dec.{eqb}
+use Rattle.facts.specs.Bits.{bitIf}
 use Rattle.space.specs.declared.Width.{Width}
 use Rattle.space.specs.declared.Place.{Place}
 use Rattle.space.specs.Space.{Spaces}
@@ -15,7 +16,7 @@ use Rattle.unit_laws.specs.Op.{Area}
 use Rattle.unit_laws.specs.Search.{First, meets}
 use Rattle.unit_comparison.specs.Comparison.{comparison}
 use Rattle.word_address.specs.declared.Address.{Address}
-use Rattle.word_address.specs.Address.{placeOf, sourceOf}
+use Rattle.word_address.specs.Address.{placeOf, stepTo, sourceOf}
 use Rattle.word_operation.specs.declared.Moves.the-variants as moves
 use Rattle.word_operation.specs.Operation.{comparing}
 use Rattle.word_mode.specs.declared.Reasons.{Reasons}
@@ -72,9 +73,13 @@ pub record SearchStretch (s : Search) (stop i : ℕ) (x : Moment) : Type 0 where
   pub mine : unit-next (s .channel) (iter next i x) ≡ true
   pub untouched : Every next (Away (s .channel) (Area (s .units) (place s))) (suc i) x
 
--- what a step answers that does a unit of the channel, with these end reasons
-abbrev pub unit-ended : Search → Reasons → Paper
-unit-ended s why = record { number = 0; name = unit; channel = channelNumber (s .channel); why = why }
+-- whether the step after d(k) changes bits 23-16 of the source address (document 02, E5)
+abbrev pub changed : Search → ℕ → Bool
+changed s k = stepTo (stepped (s .width) k (s .start)) (stepped (s .width) (suc k) (s .start)) .upper
+
+-- what a step answers that does unit k of the search, with these end reasons
+abbrev pub unit-ended : Search → ℕ → Reasons → Paper
+unit-ended s k why = record { number = 0; name = unit; channel = channelNumber (s .channel); why = why; upper = bitIf (changed s k) 1 }
 
 -- of unit k: MC if and only if d(k) meets the condition, TC if and only if k is N - 1, no EOP
 abbrev pub reasons-of : Search → Spaces → ℕ → Reasons
@@ -83,9 +88,9 @@ reasons-of s z k = record { tc = eqb (suc k) (s .units); mc = hit s z k; eop = f
 -- What is promised of the unit at call i, from the machine m before it to m′ after it, by its number among the channel's units.
 pub record UnitSearched (s : Search) (stop number : ℕ) (z : Spaces) (m m′ : Machine) : Type 0 where
   -- before `stop` it has no end reasons
-  pub going : number < stop → paper (answer m) ≡ unit-ended s none
+  pub going : number < stop → paper (answer m) ≡ unit-ended s number none
   -- at `stop` it has exactly its reasons, and there are some
-  pub reasons : number ≡ stop → paper (answer m) ≡ unit-ended s (reasons-of s z stop)
+  pub reasons : number ≡ stop → paper (answer m) ≡ unit-ended s stop (reasons-of s z stop)
   pub stops : number ≡ stop → some (paper (answer m) .why) ≡ true
   -- it counts to N - 1 - stop, and that is left in the register where no reload is enabled for a reason
   pub count : number ≡ stop → made (s .channel) m .set .count ≡ s .units - 1 - stop

@@ -72,7 +72,7 @@ abbrev pub KeepApart : ℕ → Machine → Type 0
 KeepApart n m = (i j : ℕ) → i < n → j < n → next-choice (iter step i m) ≡ chosen.Unit One → next-choice (iter step j m) ≡ chosen.Unit Two
     → KeepsClear (m .spaces) (iter step i m .controller .one) (iter step j m .controller .two)
 
--- "given back" (the note), or a unit without reasons
+-- "given back" (the note), or a unit without reasons, with any number of changes of bits 23-16
 abbrev pub Turned : Answer → Type 0
 Turned a = (a ≡ answers.GivenBack Note) ⊎ ((paper a .name ≡ AnswerName.unit) × (paper a .why ≡ none))
 

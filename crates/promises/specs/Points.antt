@@ -2,13 +2,15 @@
 -- document 02's requests stand with them.
 -- Assumes nothing.
 use mathlib.Core.Path.{_≡_}
-use mathlib.Core.Bool.{true, false}
+use mathlib.Core.Bool.{Bool, true, false}
 use mathlib.Core.List.{List}
 use Prim.Native.Nat.{ℕ, _+_, _-_}
+use Rattle.space.specs.declared.Width.{Width}
 use Rattle.space.specs.declared.Width.the-variants.{Byte, Word}
 use Rattle.unit_funnel.specs.Funnel.{highFirst, joined}
 use Rattle.word_address.specs.declared.Set.{Set}
-use Rattle.word_address.specs.Address.{steppedOn}
+use Rattle.word_address.specs.declared.Address.{Address}
+use Rattle.word_address.specs.Address.{steppedOn, stepTo}
 use Rattle.word_reload.specs.declared.Stage.the-variants.{Reload}
 use Rattle.unit.specs.declared.Work.{Work}
 use Rattle.unit.specs.Unit.{compared, movedOf}
@@ -48,6 +50,10 @@ sought s = searching 2 0x1200 0x00FF s
 abbrev pub five : Set
 five = record { a = record { upper = 0x0040; lower = 0x0200 }; b = record { upper = 0; lower = 0 }; count = 5 }
 
+-- the step after an access changes bits 23-16
+abbrev pub changes-upper : Width → Address → Bool
+changes-upper w a = stepTo a (steppedOn w a) .upper
+
 -- channel 1 with CIE and IP set, save loaded
 abbrev pub interrupting : Controller → Controller
 interrupting u = with One (withIp One (at One u ⟨interrupt≔ at One u .interrupt ⟨cie≔ true ⟩ ⟩)) u
@@ -61,6 +67,12 @@ pub record Points : Type 0 where
   pub p4 : steppedOn Byte (record { upper = 0xFF40; lower = 0xFFFF }) ≡ record { upper = 0x0040; lower = 0x0000 }
   pub p5 : steppedOn Word (record { upper = 0x0048; lower = 0x0000 }) ≡ record { upper = 0xFF48; lower = 0xFFFE }
   pub p6 : steppedOn Byte (record { upper = 0x0000; lower = 0x0010 }) ≡ record { upper = 0x0000; lower = 0x0012 }
+  -- Of these the first two change bits 23-16, and so does a memory byte 00FFFFh up; held there it does not (document 02, E5).
+  pub e5 : (changes-upper Byte (record { upper = 0xFF40; lower = 0xFFFF }) ≡ true)
+      × (changes-upper Word (record { upper = 0x0048; lower = 0x0000 }) ≡ true)
+      × (changes-upper Byte (record { upper = 0x0000; lower = 0x0010 }) ≡ false)
+      × (changes-upper Byte (record { upper = 0x0040; lower = 0xFFFF }) ≡ true)
+      × (changes-upper Byte (record { upper = 0x0050; lower = 0xFFFF }) ≡ false)
   -- Count 0000 becomes FFFFh without TC; count 1 becomes 0 with TC: by any unit.
   pub p7 : (w : Work) (datum : ℕ) → (movedOf (counted 0 w) datum .set .count ≡ 0xFFFF) × (movedOf (counted 0 w) datum .tc ≡ false)
   pub p8 : (w : Work) (datum : ℕ) → (movedOf (counted 1 w) datum .set .count ≡ 0) × (movedOf (counted 1 w) datum .tc ≡ true)

@@ -52,7 +52,7 @@ use Rattle.standstill.specs.declared.WhyAnswer.the-variants as standstill
 use Rattle.standstill.specs.Causes.{whyAt}
 use Rattle.standstill.specs.Answers.{causeNumber, paperWhy}
 use Rattle.host_state.specs.Load.{stateOf}
-use Rattle.host_answer.specs.Numbers.{unitHalf, packed, stepNumber, runNumber, readNumber, wordKind, ackNumber, whyNumber}
+use Rattle.host_answer.specs.Numbers.{unitHalf, fetchHalf, packed, stepNumber, runNumber, readNumber, wordKind, ackNumber, whyNumber}
 use Rattle.host.specs.Calls.{isRefusal, wordsAfter, writtenLeft, linedLeft, acknowledgedLeft, steppedLeft, ranLeft, whyAnswered}
 use Rattle.unit_laws.specs.Machine.{iter}
 
@@ -154,9 +154,9 @@ step-says Idle h = packed-says 1 0
 step-says (GivenBack Note) h = packed-says 2 0
 step-says (GivenBack Bus) h = packed-says 3 0
 step-says (Holding w) h = packed-says 4 (channelNumber w)
-step-says (Fetched w d) h = packed-says 5 (channelNumber w)
+step-says (Fetched w d) h = packed-says 5 (fetchHalf (channelNumber w) (d .upper))
 step-says (Dropped w) h = packed-says 6 (channelNumber w)
-step-says (Unit w d) h = packed-says 7 (unitHalf (channelNumber w) (d .why))
+step-says (Unit w d) h = packed-says 7 (unitHalf (channelNumber w) (d .why) (d .upper))
 step-says (Ended w) h = packed-says 8 (channelNumber w)
 
 -- ---- a step's answer has 32 bits
@@ -169,8 +169,8 @@ bit-small : (b : Bool) (v : ℕ) → bitIf b v ≤ v
 bit-small true v = omega arith
 bit-small false v = omega arith
 
-half-fits : (w : Which) (why : Reasons) → unitHalf (channelNumber w) why < 65536
-half-fits w why = omega (arith, channel-small w, bit-small (why .tc) 0x100, bit-small (why .mc) 0x200, bit-small (why .eop) 0x400)
+half-fits : (w : Which) (why : Reasons) (upper : ℕ) → unitHalf (channelNumber w) why upper < 65536
+half-fits w why upper = omega (arith, channel-small w, bit-small (why .tc) 0x100, bit-small (why .mc) 0x200, bit-small (why .eop) 0x400)
 
 of-channel : (kind : ℕ) (w : Which) → kind < 256 → packed kind (channelNumber w) < 4294967296
 of-channel kind w h = omega (arith, channel-small w)
@@ -182,9 +182,9 @@ step-fits Idle h = omega arith
 step-fits (GivenBack Note) h = omega arith
 step-fits (GivenBack Bus) h = omega arith
 step-fits (Holding w) h = of-channel 4 w (omega arith)
-step-fits (Fetched w d) h = of-channel 5 w (omega arith)
+step-fits (Fetched w d) h = omega (arith, channel-small w, bit-small (d .upper) 0x1000)
 step-fits (Dropped w) h = of-channel 6 w (omega arith)
-step-fits (Unit w d) h = omega (arith, half-fits w (d .why))
+step-fits (Unit w d) h = omega (arith, half-fits w (d .why) (d .upper))
 step-fits (Ended w) h = of-channel 8 w (omega arith)
 
 -- ---- a refusal leaves the words

@@ -32,8 +32,8 @@ use Rattle.step.specs.declared.Answer.the-variants as answer
 use Rattle.step.specs.Set.{_⟨control≔_⟩}
 use Rattle.step.specs.Controller.{at, with}
 use Rattle.step.specs.Choice.{turn, factsOf}
-use Rattle.step.specs.Fetching.{loadedAs, fetchedBy}
-use Rattle.step.specs.Step.{outcome, says, workOf, goneOn, endedAfter, unitOf, performOf}
+use Rattle.step.specs.Fetching.{afterWord}
+use Rattle.step.specs.Step.{outcome, says, workOf, goneOn, endedAfter, unitAnswer, unitOf, performOf}
 
 -- ---- a candidate
 
@@ -80,7 +80,7 @@ module _ (u : Controller) where
 -- ---- what a step does
 
 pub fetched : (w : Which) (u s : Controller) (d : Channel) (next : Next) (active cpu : Bool) (k : Control) → active ≡ requests (d .mode) (d .line)
-    → cpu ≡ isInterleaved (u .master) → k ≡ controlFetched next cpu active w (u .control) → s ≡ with w d (u ⟨control≔ k ⟩) → s ≡ fetchedBy w (loadedAs d next) u .state
+    → cpu ≡ isInterleaved (u .master) → k ≡ controlFetched next cpu active w (u .control) → s ≡ with w d (u ⟨control≔ k ⟩) → s ≡ afterWord w d next u
 fetched w u s d next active cpu k ea ei ek es = es ∙ (λ i. with w d (u ⟨control≔ (ek ∙ (λ j. controlFetched next (ei j) (ea j) w (u .control))) i ⟩))
 
 pub gone-on : (w v : Which) (u : Controller) (m : Moved) (c : Channel) (k : Control) (r : RequestMode) (cpu : Bool) → w ≡ v → r ≡ requestModeOf (at w u .mode)
@@ -94,19 +94,19 @@ module _ (w : Which) (eop : Bool) (u : Controller) (m : Moved) (s : Controller) 
   settled b =
       let c = at w u in
       let k = afterBy b w (reasonsOf m eop) (movedBy m c) in
-      says (with w (k .channel) (u ⟨control≔ controlBy b (requestModeOf (c .mode)) (isInterleaved (u .master)) (k .chains) w (u .control) ⟩)) (answer.Unit w (record { why = reasonsOf m eop }))
+      says (with w (k .channel) (u ⟨control≔ controlBy b (requestModeOf (c .mode)) (isInterleaved (u .master)) (k .chains) w (u .control) ⟩)) (answer.Unit w (unitAnswer m eop))
 
   is-settled : (b : Bool) → ends ≡ b → settled b ≡ unitOf w eop u m
   unfolding unitOf afterUnit settled
   is-settled b h = ap settled (sym (sym e ∙ h))
 
-  pub settles-on : ends ≡ false → s ≡ goneOn w u m → says s (answer.Unit w (record { why = reasonsOf m eop })) ≡ unitOf w eop u m
+  pub settles-on : ends ≡ false → s ≡ goneOn w u m → says s (answer.Unit w (unitAnswer m eop)) ≡ unitOf w eop u m
   unfolding goneOn settled
-  settles-on h es = ap (λ (x : Controller). says x (answer.Unit w (record { why = reasonsOf m eop }))) es ∙ is-settled false h
+  settles-on h es = ap (λ (x : Controller). says x (answer.Unit w (unitAnswer m eop))) es ∙ is-settled false h
 
-  pub settles-ended : ends ≡ true → s ≡ endedAfter w (reasonsOf m eop) u m → says s (answer.Unit w (record { why = reasonsOf m eop })) ≡ unitOf w eop u m
+  pub settles-ended : ends ≡ true → s ≡ endedAfter w (reasonsOf m eop) u m → says s (answer.Unit w (unitAnswer m eop)) ≡ unitOf w eop u m
   unfolding endedAfter settled
-  settles-ended h es = ap (λ (x : Controller). says x (answer.Unit w (record { why = reasonsOf m eop }))) es ∙ is-settled true h
+  settles-ended h es = ap (λ (x : Controller). says x (answer.Unit w (unitAnswer m eop))) es ∙ is-settled true h
 
 pub does-unit : (w : Which) (eop : Bool) (u : Controller) (z z′ : Spaces) (c : Channel) (k : Work) (m : Moved) (s : Stepped) → c ≡ at w u → k ≡ workOf c
     → whole m z′ ≡ worked k z → s ≡ unitOf w eop u m → outcome s z′ ≡ performOf (Unit w) eop u z

@@ -2,6 +2,7 @@
 -- Assumes nothing.
 use Prim.Native.Nat.{ℕ}
 use mathlib.Core.Bool.{false}
+use Rattle.facts.specs.Bits.{bitIf}
 use Rattle.port.specs.declared.Which.{Which}
 use Rattle.port.specs.declared.Which.the-variants.{One, Two}
 use Rattle.word_mode.specs.declared.Reasons.{Reasons}
@@ -12,12 +13,13 @@ use Rattle.step.specs.declared.Answer.the-variants.{Refused, Disabled, I
 pub data AnswerName : Type 0 where
   refused disabled idle given-back holding fetched dropped unit ended : AnswerName
 
--- refusal number or 0; the answer's name; its channel or 0; its end reasons
+-- refusal number or 0; the answer's name; its channel or 0; its end reasons; and (document 02, E5) how many of its steps changed bits 23-16
 pub record Paper : Type 0 where
   pub number : ℕ
   pub name : AnswerName
   pub channel : ℕ
   pub why : Reasons
+  pub upper : ℕ
 
 abbrev pub none : Reasons
 none = record { tc = false; mc = false; eop = false }
@@ -27,13 +29,13 @@ channelNumber One = 1
 channelNumber Two = 2
 
 abbrev pub paper : Answer → Paper
-paper (Refused n) = record { number = n; name = refused; channel = 0; why = none }
-paper Disabled = record { number = 0; name = disabled; channel = 0; why = none }
-paper Idle = record { number = 0; name = idle; channel = 0; why = none }
-paper (GivenBack Note) = record { number = 0; name = given-back; channel = 0; why = none }
-paper (GivenBack Bus) = record { number = 0; name = given-back; channel = 0; why = none }
-paper (Holding w) = record { number = 0; name = holding; channel = channelNumber w; why = none }
-paper (Fetched w d) = record { number = 0; name = fetched; channel = channelNumber w; why = none }
-paper (Dropped w) = record { number = 0; name = dropped; channel = channelNumber w; why = none }
-paper (Unit w d) = record { number = 0; name = unit; channel = channelNumber w; why = d .why }
-paper (Ended w) = record { number = 0; name = ended; channel = channelNumber w; why = none }
+paper (Refused n) = record { number = n; name = refused; channel = 0; why = none; upper = 0 }
+paper Disabled = record { number = 0; name = disabled; channel = 0; why = none; upper = 0 }
+paper Idle = record { number = 0; name = idle; channel = 0; why = none; upper = 0 }
+paper (GivenBack Note) = record { number = 0; name = given-back; channel = 0; why = none; upper = 0 }
+paper (GivenBack Bus) = record { number = 0; name = given-back; channel = 0; why = none; upper = 0 }
+paper (Holding w) = record { number = 0; name = holding; channel = channelNumber w; why = none; upper = 0 }
+paper (Fetched w d) = record { number = 0; name = fetched; channel = channelNumber w; why = none; upper = bitIf (d .upper) 1 }
+paper (Dropped w) = record { number = 0; name = dropped; channel = channelNumber w; why = none; upper = 0 }
+paper (Unit w d) = record { number = 0; name = unit; channel = channelNumber w; why = d .why; upper = d .upper }
+paper (Ended w) = record { number = 0; name = ended; channel = channelNumber w; why = none; upper = 0 }

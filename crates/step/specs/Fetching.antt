@@ -20,15 +20,13 @@ use Rattle.step_bus.specs.After.{controlFetched, droppedControl}
 use Rattle.step.specs.Controller.{at, with}
 use Rattle.step_rules.specs.Rules.{isInterleaved}
 
-abbrev pub loadedAs : Channel → Next → Loaded
-loadedAs c next = record { channel = c; next = next }
+-- the controller after a word, whose channel is then c
+abbrev pub afterWord : Which → Channel → Next → Controller → Controller
+afterWord w c next u =
+    with w c (u ⟨control≔ controlFetched next (isInterleaved (u .master)) (requests (c .mode) (c .line)) w (u .control) ⟩)
 
 abbrev pub fetchedBy : Which → Loaded → Controller → Stepped
-fetchedBy w l u = record {
-  state = with w (l .channel)
-      (u ⟨control≔ controlFetched (l .next) (isInterleaved (u .master)) (requests (l .channel .mode) (l .channel .line)) w (u .control) ⟩);
-  answer = Fetched w (record {});
-}
+fetchedBy w l u = record { state = afterWord w (l .channel) (l .next) u; answer = Fetched w (record { upper = l .upper }) }
 
 -- EOP with a chain fetch drops the chain.
 unfoldable pub dropOf : Which → Controller → Stepped

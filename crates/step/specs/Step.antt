@@ -15,6 +15,7 @@ use Rattle.channel.specs.Ending.{reasonsOf, movedBy, unended, endOf, afterUnit}
 use Rattle.step.specs.declared.Controller.{Controller}
 use Rattle.step.specs.declared.Stepped.{Stepped}
 use Rattle.step.specs.declared.Ran.{Ran}
+use Rattle.step.specs.declared.UnitAnswer.{UnitAnswer}
 use Rattle.step_rules.specs.declared.Choice.{Choice}
 use Rattle.step_rules.specs.declared.Choice.the-variants.{Disabled, Refused, Fetch, GiveBack, Unit, Hold, Release, Idle}
 use Rattle.step_bus.specs.declared.Back.{Back}
@@ -59,14 +60,16 @@ workOf c = record {
   kept = record { mch = c .status .mch; mcl = c .status .mcl; met = false };
 }
 
+abbrev pub unitAnswer : Moved → Bool → UnitAnswer
+unitAnswer m eop = record { why = reasonsOf m eop; upper = m .upper }
+
 unfoldable pub unitOf : Which → Bool → Controller → Moved → Stepped
 unitOf w eop u m =
     let c = at w u in
     let e = afterUnit w eop m c in
-    let why = reasonsOf m eop in
     says
-    (with w (e .channel) (u ⟨control≔ controlBy (some why) (requestModeOf (c .mode)) (isInterleaved (u .master)) (e .chains) w (u .control) ⟩))
-    (answer.Unit w (record { why = why }))
+    (with w (e .channel) (u ⟨control≔ controlBy (some (reasonsOf m eop)) (requestModeOf (c .mode)) (isInterleaved (u .master)) (e .chains) w (u .control) ⟩))
+    (answer.Unit w (unitAnswer m eop))
 
 -- the controller after an unended unit
 unfoldable pub goneOn : Which → Controller → Moved → Controller

@@ -12,7 +12,7 @@ ghost use Rattle.step_bus.specs.After.{droppedControl};
 ghost use Rattle.step.specs.Set.{_⟨control≔_⟩};
 ghost use Rattle.step.specs.Controller.{at, with};
 ghost use Rattle.step.specs.Choice.{turn, factsOf, faultsOf, choice};
-ghost use Rattle.step.specs.Fetching.{loadedAs, fetchedBy, fetchOf};
+ghost use Rattle.step.specs.Fetching.{afterWord, fetchOf};
 ghost use Rattle.step.specs.Step.{outcome, workOf, goneOn, endedAfter, unitOf, holdOf, backOf, performOf, stepOf};
 use channel::Channel;
 use port::Which;
@@ -41,13 +41,16 @@ pub struct Controller {
     pub two: Channel,
 }
 
-// What the answer of a unit tells.
+// What the answer of a unit tells: its end reasons, and how many of its steps changed bits 23-16.
 pub struct UnitAnswer {
     pub why: Reasons,
+    pub upper: u16,
 }
 
-// What the answer of a fetch tells: nothing yet.
-pub struct FetchAnswer {}
+// What the answer of a fetch tells: whether its step changed bits 23-16 of the chain address.
+pub struct FetchAnswer {
+    pub upper: bool,
+}
 
 pub enum Answer {
     Refused(u8),
@@ -264,7 +267,7 @@ impl Controller {
 
     // The controller after a word of a chain, whose channel is then d.
     pub fn settle_fetch(self, w: Which, d: Channel, next: Next) -> Controller
-        ensures { λ r. ⌜ r ≡ fetchedBy w (loadedAs d next) self .state ⌝ }
+        ensures { λ r. ⌜ r ≡ afterWord w d next self ⌝ }
     {
         let k = self.control;
         let active = channel_request::is_requesting(d.mode, d.line);
@@ -295,7 +298,7 @@ impl Controller {
         let next = l.next;
         Stepped {
             state: self.settle_fetch(w, d, next),
-            answer: Answer::Fetched(w, FetchAnswer {}),
+            answer: Answer::Fetched(w, FetchAnswer { upper: l.upper }),
         }
     }
 
@@ -362,7 +365,13 @@ impl Controller {
         }
         Stepped {
             state: next,
-            answer: Answer::Unit(w, UnitAnswer { why }),
+            answer: Answer::Unit(
+                w,
+                UnitAnswer {
+                    why,
+                    upper: m.upper,
+                },
+            ),
         }
     }
 

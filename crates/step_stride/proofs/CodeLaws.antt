@@ -30,11 +30,11 @@ use Rattle.step_stride.proofs.StrideLaws.{unrested}
 
 pub fetches : (eop : Bool) (w : Which) (stage : Stage) (left : ℕ) (u : Controller) (m : List ℕ) (c : Channel) (x : Fetched) (s : Controller) → eop ≡ false
     → c ≡ at w u → fetchedAs x ≡ fetchesOf m (left - 1) 0 stage c → s ≡ fetchedBy w (fetchedAs x .last) u .state
-    → record { state = s; answer = answer.Fetched w (record {}); steps = x .words } ≡ fetchesBy eop w stage left u m
+    → record { state = s; answer = answer.Fetched w (record { upper = x .upper }); steps = x .words } ≡ fetchesBy eop w stage left u m
 fetches eop w stage left u m c x s e ec ex es =
     let row : fetchedAs x ≡ fetchesOf m (left - 1) 0 stage (at w u) = ex ∙ ap (fetchesOf m (left - 1) 0 stage) ec in
-    (λ i. record { state = es i; answer = answer.Fetched w (record {}); steps = x .words })
-    ∙ (λ i. record { state = fetchedBy w (row i .last) u .state; answer = answer.Fetched w (record {}); steps = row i .count })
+    (λ i. record { state = es i; answer = answer.Fetched w (record { upper = x .upper }); steps = x .words })
+    ∙ (λ i. let f = fetchedBy w (row i .last) u in record { state = f .state; answer = f .answer; steps = row i .count })
     ∙ sym (λ i. fetchesBy (e i) w stage left u m)
 
 -- alone, the other channel rests as it is

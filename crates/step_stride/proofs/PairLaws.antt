@@ -38,7 +38,7 @@ use Rattle.step_rules.proofs.View.Intends.{keeps, begins-unit}
 use Rattle.step_rules.proofs.View.Because.{as-intended}
 use Rattle.step.specs.Choice.{turn, factsOf, choice}
 use Rattle.step.proofs.Laws.{at-of, control-of, master-of, chooses}
-use Rattle.step.specs.Step.{says, workOf, unitOf}
+use Rattle.step.specs.Step.{says, workOf, unitAnswer, unitOf}
 use Rattle.step_stride.specs.Stride.{takeTurns, pairOf, rested}
 use Rattle.step_stride.proofs.StrideLaws.{Asks, unit-asks}
 
@@ -161,7 +161,7 @@ same-control false DemandInterleave cpu chains w k b s = refl
 
 -- what a unit leaves, if it leaves k of what belongs to no channel
 abbrev landed : Which → Controller → Moved → Control → Stepped
-landed x u n k = says (with x (afterUnit x false n (at x u) .channel) (u ⟨control≔ k ⟩)) (answer.Unit x (record { why = reasonsOf n false }))
+landed x u n k = says (with x (afterUnit x false n (at x u) .channel) (u ⟨control≔ k ⟩)) (answer.Unit x (unitAnswer n false))
 
 lands : (x : Which) (u : Controller) (n : Moved) (b : Bus) (s : Which)
     → landed x u n (controlBy (some (reasonsOf n false)) (requestModeOf (at x u .mode)) (isInterleaved (u .master)) (afterUnit x false n (at x u) .chains) x (leftBy b s (u .control)))
@@ -190,11 +190,11 @@ module _ (w : Which) (u : Controller) (m : Moved) where
   by-mode false DemandRelease cpu e = refl
   by-mode false DemandInterleave cpu e = absurd (true≢false (sym e))
 
-  pub leaves : (both : Bool) → flows both w u ≡ true → (m .tc || m .compared .met) ≡ false → unitOf w false u m ≡ says (goneBy both w u m) (answer.Unit w (record { why = reasonsOf m false }))
+  pub leaves : (both : Bool) → flows both w u ≡ true → (m .tc || m .compared .met) ≡ false → unitOf w false u m ≡ says (goneBy both w u m) (answer.Unit w (unitAnswer m false))
   unfolding unitOf afterUnit unended movedBy some
   leaves both e g =
-      (λ i. says (let k = afterBy (g i || false) w (reasonsOf m false) (movedBy m (at w u)) in with w (k .channel) (u ⟨control≔ controlBy (g i || false) (requestModeOf (at w u .mode)) (isInterleaved (u .master)) (k .chains) w (u .control) ⟩)) (answer.Unit w (record { why = reasonsOf m false })))
-      ∙ ap (λ (x : Controller). says x (answer.Unit w (record { why = reasonsOf m false }))) (by-mode both (requestModeOf (at w u .mode)) (isInterleaved (u .master)) (fit both w u e))
+      (λ i. says (let k = afterBy (g i || false) w (reasonsOf m false) (movedBy m (at w u)) in with w (k .channel) (u ⟨control≔ controlBy (g i || false) (requestModeOf (at w u .mode)) (isInterleaved (u .master)) (k .chains) w (u .control) ⟩)) (answer.Unit w (unitAnswer m false)))
+      ∙ ap (λ (x : Controller). says x (answer.Unit w (unitAnswer m false))) (by-mode both (requestModeOf (at w u .mode)) (isInterleaved (u .master)) (fit both w u e))
 
   onward-of : (both : Bool) → (m .tc || m .compared .met) ≡ false → workOf (at w (goneBy both w u m)) ≡ onward (workOf (at w u)) m
   unfolding movedBy

@@ -35,7 +35,7 @@ use Rattle.step_rules.proofs.View.Intends.{goes-on, keeps, begins-chain, begins
 use Rattle.step_rules.proofs.View.Because.{as-intended}
 use Rattle.step.specs.Choice.{factsOf, choice}
 use Rattle.step.proofs.Laws.{at-of, control-of, master-of, with-again, Chosen, chosen-at, chooses, is-candidate}
-use Rattle.step.specs.Fetching.{fetchedBy}
+use Rattle.step.specs.Fetching.{afterWord, fetchedBy}
 use Rattle.step.specs.Step.{outcome, workOf, unitOf, performOf}
 use Rattle.step_stride.specs.Stride.{pairOf, rested, unitsBy, single}
 
@@ -69,11 +69,8 @@ enabled-for b u w s (as-intended (goes-on v g e c) r) = e
 enabled-for b u w s (as-intended (begins-chain v t p) r) = t .calm .enabled
 
 module _ (w : Which) (u : Controller) (c : Channel) (p : Progress) where
-  abbrev l : Loaded
-  l = record { channel = c; next = More p }
-
   abbrev pub fetchedOn : Controller
-  fetchedOn = fetchedBy w l u .state
+  fetchedOn = afterWord w c (More p) u
 
   pub at-fetched : at w fetchedOn ≡ c
   at-fetched = at-of w c _
@@ -91,9 +88,9 @@ module _ (w : Which) (u : Controller) (c : Channel) (p : Progress) where
       let k = control-of w c (u ⟨control≔ u .control ⟨chain≔ Of w (Entries p) ⟩ ⟩) in
       let m = master-of w c (u ⟨control≔ u .control ⟨chain≔ Of w (Entries p) ⟩ ⟩) in
       let act = requests (n .channel .mode) (n .channel .line) in
-      (λ i. record { state = with w (n .channel) (fetchedOn ⟨control≔ controlFetched (n .next) (isInterleaved (m i)) act w (k i) ⟩); answer = answer.Fetched w (record {}) })
-      ∙ (λ i. record { state = with w (n .channel) (fetchedOn ⟨control≔ same-fetch (n .next) (isInterleaved (u .master)) act i ⟩); answer = answer.Fetched w (record {}) })
-      ∙ (λ i. record { state = with-again w c (n .channel) u (u .control ⟨chain≔ Of w (Entries p) ⟩) (controlFetched (n .next) (isInterleaved (u .master)) act w (u .control)) i; answer = answer.Fetched w (record {}) })
+      (λ i. record { state = with w (n .channel) (fetchedOn ⟨control≔ controlFetched (n .next) (isInterleaved (m i)) act w (k i) ⟩); answer = answer.Fetched w (record { upper = n .upper }) })
+      ∙ (λ i. record { state = with w (n .channel) (fetchedOn ⟨control≔ same-fetch (n .next) (isInterleaved (u .master)) act i ⟩); answer = answer.Fetched w (record { upper = n .upper }) })
+      ∙ (λ i. record { state = with-again w c (n .channel) u (u .control ⟨chain≔ Of w (Entries p) ⟩) (controlFetched (n .next) (isInterleaved (u .master)) act w (u .control)) i; answer = answer.Fetched w (record { upper = n .upper }) })
     where
       same-fetch : (x : Next) (cpu act : Bool) → controlFetched x cpu act w (u .control ⟨chain≔ Of w (Entries p) ⟩) ≡ controlFetched x cpu act w (u .control)
       same-fetch (More q) cpu act = refl

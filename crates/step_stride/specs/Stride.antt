@@ -46,7 +46,7 @@ pairOf w u = record { which = w; work = workOf (at w u); other = workOf (at (oth
 
 -- A channel that rests has the registers that its latest unit left.
 abbrev pub restedBy : Work → Channel → Channel
-restedBy k c = movedBy (record { set = k .set; compared = k .kept; tc = false }) c
+restedBy k c = movedBy (record { set = k .set; compared = k .kept; tc = false; upper = 0 }) c
 
 abbrev pub rested : Which → Work → Controller → Controller
 rested w k u = with w (restedBy k (at w u)) u

@@ -37,7 +37,7 @@ fn fetch(u: Controller, w: Which, stage: Stage, left: u32, eop: bool, memory: &[
     let next = l.next;
     Ran {
         state: u.settle_fetch(w, d, next),
-        answer: Answer::Fetched(w, FetchAnswer {}),
+        answer: Answer::Fetched(w, FetchAnswer { upper: l.upper }),
         steps: l.words,
     }
 }
@@ -90,6 +90,7 @@ fn rest(mut u: Controller, w: Which, k: Work) -> Controller
         set,
         compared,
         tc: false,
+        upper: 0,
     };
     match w {
         Which::One => {

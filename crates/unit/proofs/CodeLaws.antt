@@ -18,7 +18,7 @@ use Rattle.word_operation.specs.declared.Moves.the-variants.{Transfer, Search, 
 use Rattle.word_operation.specs.Operation.{datumWidth}
 use Rattle.word_mode.specs.Mode.{operationOf, isFlipped, matchControl}
 use Rattle.unit_accesses.specs.declared.Accessed.{Accessed}
-use Rattle.unit_accesses.specs.Accesses.{Effect, doneAs, datumAt, storedAt, steppedSet, accessed}
+use Rattle.unit_accesses.specs.Accesses.{Effect, doneAs, datumAt, storedAt, steppedSet, upperChanges, accessed}
 use Rattle.unit.specs.declared.Work.{Work}
 use Rattle.unit.specs.Unit.{oddAt, oddWord, compared, movedOf, worked, whole}
 
@@ -76,10 +76,11 @@ pub carried : (w : Work) (z z′ : Spaces) (o : Operation) (flip : Bool) (d : Ac
     → o ≡ operationOf (w .mode) → flip ≡ isFlipped (w .mode) → doneAs d z′ ≡ accessed (o .moves) flip (w .set) z
     → width ≡ datumWidth (o .moves) → k ≡ matchControl (w .mode)
     → r ≡ cond (o .compares) (comparison width (d .datum) (w .pattern) (w .mask) k) (w .kept) → t ≡ terminal (d .set .count)
-    → whole (record { set = d .set; compared = r; tc = t }) z′ ≡ worked w z
+    → whole (record { set = d .set; compared = r; tc = t; upper = d .upper }) z′ ≡ worked w z
 unfolding worked movedOf accessed steppedSet compared
 carried w z z′ o flip d width k r t eo ef e ew ek er et =
     let es : d .set ≡ steppedSet (o .moves) flip (w .set) = ap (λ (x : Effect). x .done .set) e in
     let ev : d .datum ≡ datumAt (o .moves) flip (w .set) z = ap (λ (x : Effect). x .done .datum) e in
+    let eu : d .upper ≡ upperChanges (o .moves) flip (w .set) = ap (λ (x : Effect). x .done .upper) e in
     let ez : z′ ≡ storedAt (o .moves) flip (w .set) (datumAt (o .moves) flip (w .set) z) z = ap (λ (x : Effect). x .spaces) e in
-    rw (et, er, ek, ew, es, ev, ez, ef, eo)
+    rw (et, er, ek, ew, es, ev, eu, ez, ef, eo)

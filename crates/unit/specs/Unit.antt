@@ -18,7 +18,7 @@ use Rattle.word_operation.specs.declared.Moves.{Moves}
 use Rattle.word_operation.specs.declared.Operation.{Operation}
 use Rattle.word_operation.specs.Operation.{carried, datumWidth}
 use Rattle.word_mode.specs.Mode.{operationOf, isFlipped, matchControl}
-use Rattle.unit_accesses.specs.Accesses.{Access, readsOf, writesOf, datumAt, storedAt, steppedSet}
+use Rattle.unit_accesses.specs.Accesses.{Access, readsOf, writesOf, datumAt, storedAt, steppedSet, upperChanges}
 use Rattle.unit.specs.declared.Moved.{Moved}
 use Rattle.unit.specs.declared.Work.{Work}
 
@@ -54,6 +54,7 @@ movedOf w datum = record {
   set = steppedSet (operationOf (w .mode) .moves) (isFlipped (w .mode)) (w .set);
   compared = compared (operationOf (w .mode)) datum (w .pattern) (w .mask) (matchControl (w .mode)) (w .kept);
   tc = terminal (fewer (w .set .count));
+  upper = upperChanges (operationOf (w .mode) .moves) (isFlipped (w .mode)) (w .set);
 }
 
 -- ---- the unit's work: what it leaves of the registers, and the spaces

@@ -21,11 +21,12 @@ pub struct Work {
     pub kept: Compared,
 }
 
-// What a unit makes of it.
+// What a unit makes of it, and how many of its steps changed bits 23-16.
 pub struct Moved {
     pub set: Set,
     pub compared: Compared,
     pub tc: bool,
+    pub upper: u16,
 }
 
 fn is_odd_at(w: Width, a: Address) -> bool
@@ -108,5 +109,6 @@ pub fn carry(w: Work, memory: &mut [u8], io: &mut [u8]) -> Moved
         set: next,
         compared,
         tc: unit_count::is_terminal(next.count),
+        upper: done.upper,
     }
 }

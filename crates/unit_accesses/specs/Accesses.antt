@@ -1,9 +1,10 @@
 -- Document 01, "Moving a unit": a unit is a short program of accesses. Which places it reads and writes, and in which order,
 -- follows from the channel's registers alone; what it writes, from what it read. Assumes nothing.
-use Prim.Native.Nat.{ℕ, _%_}
+use Prim.Native.Nat.{ℕ, _+_, _%_}
 use mathlib.Core.Bool.{Bool, true, false, cond}
 use mathlib.Core.List.{List, [], _∷_}
 use lib.ListN.{getD}
+use Rattle.facts.specs.Bits.{bitIf}
 use Rattle.space.specs.declared.Width.{Width}
 use Rattle.space.specs.declared.Width.the-variants.{Byte, Word}
 use Rattle.space.specs.declared.Place.{Place}
@@ -12,8 +13,9 @@ use Rattle.space.specs.Bytes.{bytesAt, valueOf, bytesOf, gets, stores}
 use Rattle.unit_count.specs.Count.{fewer}
 use Rattle.unit_funnel.specs.Funnel.{joined, firstHalf, secondHalf}
 use Rattle.word_address.specs.declared.Address.{Address}
+use Rattle.word_address.specs.declared.AddressStep.{AddressStep}
 use Rattle.word_address.specs.declared.Set.{Set}
-use Rattle.word_address.specs.Address.{placeOf, steppedOn, sourceOf, destinationOf, orderOf}
+use Rattle.word_address.specs.Address.{placeOf, steppedOn, stepTo, sourceOf, destinationOf, orderOf}
 use Rattle.word_operation.specs.declared.Moves.{Moves}
 use Rattle.word_operation.specs.declared.Moves.the-variants.{Transfer, Search, Funnel}
 use Rattle.unit_accesses.specs.declared.Accessed.{Accessed}
@@ -76,9 +78,20 @@ storedAt m flip s v z = stores 0 (bytes (writesOf m flip s)) (writtenOf m flip s
 -- ---- the registers
 
 -- A register steps after each of its accesses: a search steps the source only.
+abbrev pub stepAfter : Access → AddressStep
+stepAfter x = stepTo (x .address) (steppedOn (x .width) (x .address))
+
 abbrev pub past : Address → List Access → Address
 past a [] = a
-past a (x ∷ xs) = past (steppedOn (x .width) (x .address)) xs
+past a (x ∷ xs) = past (stepAfter x .next) xs
+
+-- Document 02, E5: how many of these steps changed bits 23-16.
+abbrev pub changes : List Access → ℕ
+changes [] = 0
+changes (x ∷ xs) = bitIf (stepAfter x .upper) 1 + changes xs
+
+unfoldable pub upperChanges : Moves → Bool → Set → ℕ
+upperChanges m flip s = changes (readsOf m flip s) + changes (writesOf m flip s)
 
 -- The source's and the destination's registers in their places.
 abbrev pub setOf : Bool → Address → Address → ℕ → Set
@@ -100,7 +113,7 @@ doneAs d z = record { done = d; spaces = z }
 unfoldable pub accessed : Moves → Bool → Set → Spaces → Effect
 accessed m flip s z =
     let datum = datumAt m flip s z in
-    doneAs (record { set = steppedSet m flip s; datum = datum }) (storedAt m flip s datum z)
+    doneAs (record { set = steppedSet m flip s; datum = datum; upper = upperChanges m flip s }) (storedAt m flip s datum z)
 
 -- the accesses by which a unit writes: places, and what is written there of the data that it read
 abbrev pub writesBy : Moves → Bool → Set → List Write

@@ -1,2 +1,3 @@
 pub mod Laws
+pub mod Behind
 pub mod CodeLaws

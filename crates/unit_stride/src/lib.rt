@@ -1,14 +1,21 @@
 // Units that follow each other with nothing between them, of one channel or of two that take turns.
 ghost use mathlib.Core.Path.{_≡_};
 ghost use mathlib.Core.Bool.{cond};
-ghost use Prim.Native.Nat.{_-_};
+ghost use Prim.Native.Nat.{_-_, _≤_};
 ghost use Rattle.space.specs.Space.{spaces};
+ghost use Rattle.word_mode.specs.Mode.{operationOf, isFlipped};
+ghost use Rattle.unit_stride.specs.Behind.{cameOver, sizeAt, changesBehind};
 ghost use Rattle.unit_stride.specs.Units.{isDedicated, limitOf, onward, pass, follows, movedOnAs, movedOn, carriedAs, onwards};
 use port::Which;
+use space::Width;
 use space_board::Board;
 use unit::Moved;
 use unit::Work;
+use word_address::Address;
+use word_address::Set;
+use word_mode::Mode;
 use word_mode::RequestMode;
+use word_operation::Moves;
 
 // Before a unit: whose it is, what it works on, and the registers of the other channel, which rests.
 pub struct Pair {
@@ -86,9 +93,56 @@ fn follows(board: Board, m: Moved, next: Work) -> bool
     !(m.tc | m.compared.met) & (unit::unit_refusal(board, next.mode, next.set) == 0)
 }
 
+// ---- what the registers after a unit tell of its steps
+
+// Whether the steps that led to this address, of so much in all, changed bits 23-16.
+fn came_over(a: Address, by: u32) -> bool
+    requires { ⌜ by ≤ 4 ⌝ }
+    ensures { λ r. ⌜ r ≡ cameOver by a ⌝ }
+{
+    let field = word_tag::step_of(a.upper);
+    let lower = a.lower as u32;
+    if field == 0 {
+        lower < by
+    } else {
+        (field == 1) & (65536 <= lower + by)
+    }
+}
+
+fn size_at(w: Width, a: Address) -> u32
+    ensures { λ r. ⌜ (r ≡ sizeAt w a) × (r ≤ 2) ⌝ }
+{
+    stepping::step_size(word_tag::is_memory(a.upper), w)
+}
+
+// How many of the last unit's steps changed bits 23-16, told once a stride: to count them unit by unit would cost each unit.
+fn changes_behind(mode: Mode, s: Set) -> u16
+    ensures { λ r. ⌜ r ≡ changesBehind (operationOf mode .moves) (isFlipped mode) s ⌝ }
+{
+    let o = mode.operation();
+    let moves = o.moves;
+    match moves {
+        Moves::Transfer(w) => {
+            let a = came_over(s.a, size_at(w, s.a));
+            let b = came_over(s.b, size_at(w, s.b));
+            unit_accesses::count_changes(a, b, false)
+        }
+        Moves::Search(w) => {
+            let from = s.source(mode.is_flipped());
+            unit_accesses::count_changes(came_over(from, size_at(w, from)), false, false)
+        }
+        Moves::Funnel => {
+            let a = came_over(s.a, 2 * size_at(Width::Byte, s.a));
+            unit_accesses::count_changes(a, came_over(s.b, 2), false)
+        }
+    }
+}
+
+// ---- units that follow each other
+
 // A unit, and those of the same channel that follow it, up to a limit.
 fn move_on(board: Board, w: Work, limit: u32, memory: &mut [u8], io: &mut [u8]) -> MovedOn
-    ensures { λ r. ⌜ movedOnAs r (spaces (now (memory .exit)) (now (io .exit))) ≡ movedOn board (limit - 1) 0 w (spaces (now (memory .entry)) (now (io .entry))) ⌝ }
+    ensures { λ r. ⌜ (movedOnAs r (spaces (now (memory .exit)) (now (io .exit))) ≡ movedOn board (limit - 1) 0 w (spaces (now (memory .entry)) (now (io .entry)))) × (changesBehind (operationOf (w .mode) .moves) (isFlipped (w .mode)) (r .moved .set) ≡ r .moved .upper) ⌝ }
 {
     let set = w.set;
     let compared = w.kept;
@@ -97,6 +151,7 @@ fn move_on(board: Board, w: Work, limit: u32, memory: &mut [u8], io: &mut [u8]) 
         set,
         compared,
         tc: false,
+        upper: 0,
     };
     let mut units: u32 = 0;
     let mut going = true;
@@ -135,6 +190,7 @@ pub fn carry_on(
         set,
         compared,
         tc: false,
+        upper: 0,
     };
     let mut pair = first;
     let mut next = first;
@@ -154,6 +210,8 @@ pub fn carry_on(
     }
     let which = pair.which;
     let rests = pair.other;
+    let upper = changes_behind(pair.work.mode, moved.set);
+    moved.upper = upper;
     Carried {
         which,
         moved,

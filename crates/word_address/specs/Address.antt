@@ -1,7 +1,7 @@
 -- Document 01, "Registers" and "Moving a unit": the 24-bit address that an upper and a lower word make, and how it steps.
 -- Assumes nothing.
 use Prim.Native.Nat.{ℕ, _+_, _*_, _/_, _%_, _<_}
-use mathlib.Core.Bool.{Bool, cond}
+use mathlib.Core.Bool.{Bool, not, cond}
 use lib.Dec.{eqb}
 use Rattle.space.specs.declared.Place.{Place}
 use Rattle.space.specs.declared.Width.{Width}
@@ -9,6 +9,7 @@ use Rattle.space.specs.Space.{placeAt}
 use Rattle.stepping.specs.Stepping.{stepSize, Up, moved}
 use Rattle.unit_funnel.specs.Funnel.{highFirst}
 use Rattle.word_address.specs.declared.Address.{Address}
+use Rattle.word_address.specs.declared.AddressStep.{AddressStep}
 use Rattle.word_address.specs.declared.Set.{Set}
 use Rattle.word_tag.specs.Tag.{isMemory, directionOf}
 
@@ -31,6 +32,14 @@ steppedOn w a = withNumber a (moved 16777216 (directionOf (a .upper)) (stepSize 
 unfoldable pub fetchedOn : Address → Address
 fetchedOn a = withNumber a (moved 16777216 Up 2 (number a))
 
+-- Document 02, E5: bits 23-16 of an address, which are bits 15-8 of its upper word ..
+abbrev pub upperByte : Address → ℕ
+upperByte a = a .upper / 256
+
+-- .. and what a step hands back: the address that it leads to, and whether they changed.
+abbrev pub stepTo : Address → Address → AddressStep
+stepTo a next = record { next = next; upper = not (eqb (upperByte a) (upperByte next)) }
+
 abbrev pub isOdd : Address → Bool
 isOdd a = eqb (a .lower % 2) 1
 
@@ -45,7 +54,12 @@ destinationOf flip s = cond flip (s .a) (s .b)
 abbrev pub orderOf : Set → Bool
 orderOf s = highFirst (s .b .upper)
 
--- Both words have 16 bits.
+-- Both words have 16 bits ..
 pub record SixteenBits (a : Address) : Type 0 where
   pub upper : a .upper < 65536
   pub lower : a .lower < 65536
+
+-- .. of both registers.
+pub record SixteenBitsEach (s : Set) : Type 0 where
+  pub a : SixteenBits (s .a)
+  pub b : SixteenBits (s .b)

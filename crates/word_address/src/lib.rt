@@ -1,6 +1,6 @@
 // An address register, the 24-bit address that it holds and how it steps; the registers of an operation.
 ghost use mathlib.Core.Path.{_≡_};
-ghost use Rattle.word_address.specs.Address.{number, withNumber, steppedOn, fetchedOn, isOdd, sourceOf, destinationOf, orderOf};
+ghost use Rattle.word_address.specs.Address.{number, withNumber, steppedOn, fetchedOn, stepTo, isOdd, sourceOf, destinationOf, orderOf};
 use space::Width;
 
 // The step field of an address that steps up.
@@ -10,6 +10,12 @@ const UP: u16 = 0;
 pub struct Address {
     pub upper: u16,
     pub lower: u16,
+}
+
+// What a step hands back: the address that it leads to, and whether bits 23-16 changed.
+pub struct AddressStep {
+    pub next: Address,
+    pub upper: bool,
 }
 
 impl Address {
@@ -30,20 +36,30 @@ impl Address {
         }
     }
 
-    // The register after an access of a width at its address n, by its step field.
-    pub fn stepped_from(self, n: u32, w: Width) -> Address
-        requires { ⌜ n ≡ number self ⌝ }
-        ensures { λ r. ⌜ r ≡ steppedOn w self ⌝ }
+    // Bits 23-16 of an address are bits 15-8 of its upper word.
+    fn step_to(self, next: Address) -> AddressStep
+        ensures { λ r. ⌜ r ≡ stepTo self next ⌝ }
     {
-        let by = stepping::step_size(word_tag::is_memory(self.upper), w);
-        self.with_number(stepping::stepped(n, word_tag::step_of(self.upper), by))
+        AddressStep {
+            next,
+            upper: self.upper >> 8 != next.upper >> 8,
+        }
     }
 
-    // The chain address after a fetch: each adds 2.
-    pub fn fetched(self) -> Address
-        ensures { λ r. ⌜ r ≡ fetchedOn self ⌝ }
+    // The step after an access of a width at the register's address n, by its step field.
+    pub fn stepped_from(self, n: u32, w: Width) -> AddressStep
+        requires { ⌜ n ≡ number self ⌝ }
+        ensures { λ r. ⌜ r ≡ stepTo self (steppedOn w self) ⌝ }
     {
-        self.with_number(stepping::stepped(self.number(), UP, 2))
+        let by = stepping::step_size(word_tag::is_memory(self.upper), w);
+        self.step_to(self.with_number(stepping::stepped(n, word_tag::step_of(self.upper), by)))
+    }
+
+    // The step of a chain address after a fetch: each adds 2.
+    pub fn fetched(self) -> AddressStep
+        ensures { λ r. ⌜ r ≡ stepTo self (fetchedOn self) ⌝ }
+    {
+        self.step_to(self.with_number(stepping::stepped(self.number(), UP, 2)))
     }
 
     pub fn is_odd(self) -> bool

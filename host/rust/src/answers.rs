@@ -102,6 +102,33 @@ impl std::ops::BitOr for Reasons {
     }
 }
 
+/// How many of the addresses that stepped changed their upper byte, bits 23-16; a wrap past either end counts.
+#[derive(Clone, Copy, Debug, Default, PartialEq, Eq, PartialOrd, Ord, Hash)]
+#[repr(u8)]
+pub enum UpperChanges {
+    #[default]
+    None = 0,
+    One = 1,
+    Two = 2,
+}
+
+impl UpperChanges {
+    /// The changes of this number, 0 to 2.
+    pub const fn from_number(number: u8) -> Option<UpperChanges> {
+        match number {
+            0 => Some(UpperChanges::None),
+            1 => Some(UpperChanges::One),
+            2 => Some(UpperChanges::Two),
+            _ => None,
+        }
+    }
+
+    /// Their number, 0 to 2.
+    pub const fn number(self) -> u8 {
+        self as u8
+    }
+}
+
 /// What a step did.
 #[derive(Clone, Copy, Debug, PartialEq, Eq, Hash)]
 pub enum Step {
@@ -115,12 +142,12 @@ pub enum Step {
     BusGivenBack,
     /// The channel keeps the bus without a request.
     Holding(Channel),
-    /// The channel fetched one word of its chain.
-    Fetched(Channel),
+    /// The channel fetched one word of its chain; at most one change, of the chain address.
+    Fetched(Channel, UpperChanges),
     /// EOP ended the channel's chain.
     Dropped(Channel),
     /// The channel did one unit; the reasons say whether it ended the operation.
-    Unit(Channel, Reasons),
+    Unit(Channel, Reasons, UpperChanges),
     /// EOP ended the operation of the holding channel.
     Ended(Channel),
 }

@@ -41,7 +41,9 @@ pub mod ffi;
 pub mod plain;
 pub mod port;
 
-pub use answers::{Cause, Channel, Interrupt, Reasons, Refusal, Run, Step, LONGEST_RUN, WORDS};
+pub use answers::{
+    Cause, Channel, Interrupt, Reasons, Refusal, Run, Step, UpperChanges, LONGEST_RUN, WORDS,
+};
 
 /// A controller: the 72 words of its state, in the layout of `host/include/einflyga.h`.
 #[derive(Clone, Debug, PartialEq, Eq)]
@@ -180,15 +182,17 @@ fn channel(number: u32) -> Channel {
 fn step(answer: u32) -> Result<Step, Refusal> {
     carried(answer)?;
     let channel = || channel(answer >> 16 & 0xFF);
+    let upper =
+        || UpperChanges::from_number((answer >> 28 & 3) as u8).expect("the library answers 0 to 2");
     Ok(match answer >> 8 & 0xFF {
         0 => Step::Disabled,
         1 => Step::Idle,
         2 => Step::NoteGivenBack,
         3 => Step::BusGivenBack,
         4 => Step::Holding(channel()),
-        5 => Step::Fetched(channel()),
+        5 => Step::Fetched(channel(), upper()),
         6 => Step::Dropped(channel()),
-        7 => Step::Unit(channel(), Reasons::from_bits((answer >> 24) as u8)),
+        7 => Step::Unit(channel(), Reasons::from_bits((answer >> 24) as u8), upper()),
         8 => Step::Ended(channel()),
         kind => unreachable!("the library answers no kind {kind}"),
     })

@@ -1,8 +1,10 @@
-//! The plain model: document 01, with requests E2 and E4 of document 02, in ordinary Rust, written without sight of the proved library.
+//! The plain model: document 01, with requests E2, E4 and E5 of document 02, in ordinary Rust, written without sight of the proved library.
 //!
 //! It is the other side of the comparison and the yardstick for speed.
 
-use crate::{Cause, Channel, Interrupt, Reasons, Refusal, Run, Step, LONGEST_RUN, WORDS};
+use crate::{
+    Cause, Channel, Interrupt, Reasons, Refusal, Run, Step, UpperChanges, LONGEST_RUN, WORDS,
+};
 
 // Master mode.
 const ENABLE: u16 = 1 << 0;
@@ -141,24 +143,27 @@ impl Address {
         self.tag & IN_MEMORY != 0
     }
 
-    fn step_word(&mut self) {
-        self.step(2);
+    /// Steps past a word; answers whether bits 23-16 changed, as each step does.
+    fn step_word(&mut self) -> bool {
+        self.step(2)
     }
 
-    fn step_byte(&mut self) {
-        self.step(if self.is_in_memory() { 1 } else { 2 });
+    fn step_byte(&mut self) -> bool {
+        self.step(if self.is_in_memory() { 1 } else { 2 })
     }
 
-    fn step(&mut self, by: u32) {
+    fn step(&mut self, by: u32) -> bool {
         match self.tag & STEP_FIELD {
             0 => self.advance(by),
             DOWN => self.advance(by.wrapping_neg()),
-            _ => {}
+            _ => false,
         }
     }
 
-    fn advance(&mut self, by: u32) {
+    fn advance(&mut self, by: u32) -> bool {
+        let upper = self.at >> 16;
         self.at = self.at.wrapping_add(by) & 0xFF_FFFF;
+        self.at >> 16 != upper
     }
 }
 
@@ -393,9 +398,9 @@ impl Registers {
         self.pending = false;
     }
 
-    /// Moves or reads one unit's datum and steps the addresses.
+    /// Moves or reads one unit's datum and steps the addresses; answers how often bits 23-16 changed, too.
     #[inline(always)]
-    fn move_datum(&mut self, spaces: &mut Spaces) -> Result<u16, Refusal> {
+    fn move_datum(&mut self, spaces: &mut Spaces) -> Result<(u16, u8), Refusal> {
         match self.mode & 0xF {
             0x0 | 0x4 => self.transfer_word(spaces),
             0x1 | 0x5 => Ok(self.transfer_byte(spaces)),
@@ -415,45 +420,41 @@ impl Registers {
         }
     }
 
-    fn transfer_word(&mut self, spaces: &mut Spaces) -> Result<u16, Refusal> {
+    fn transfer_word(&mut self, spaces: &mut Spaces) -> Result<(u16, u8), Refusal> {
         let (source, destination) = self.sides();
         if source.is_odd() || destination.is_odd() {
             return Err(Refusal::OddWord);
         }
         let datum = spaces.word(*source);
         spaces.put_word(*destination, datum);
-        source.step_word();
-        destination.step_word();
-        Ok(datum)
+        let changes = u8::from(source.step_word()) + u8::from(destination.step_word());
+        Ok((datum, changes))
     }
 
-    fn transfer_byte(&mut self, spaces: &mut Spaces) -> u16 {
+    fn transfer_byte(&mut self, spaces: &mut Spaces) -> (u16, u8) {
         let (source, destination) = self.sides();
         let byte = spaces.byte(*source);
         spaces.put_byte(*destination, byte);
-        source.step_byte();
-        destination.step_byte();
-        in_both_halves(byte)
+        let changes = u8::from(source.step_byte()) + u8::from(destination.step_byte());
+        (in_both_halves(byte), changes)
     }
 
-    fn search_word(&mut self, spaces: &Spaces) -> Result<u16, Refusal> {
+    fn search_word(&mut self, spaces: &Spaces) -> Result<(u16, u8), Refusal> {
         let (source, _) = self.sides();
         if source.is_odd() {
             return Err(Refusal::OddWord);
         }
         let datum = spaces.word(*source);
-        source.step_word();
-        Ok(datum)
+        Ok((datum, source.step_word().into()))
     }
 
-    fn search_byte(&mut self, spaces: &Spaces) -> u16 {
+    fn search_byte(&mut self, spaces: &Spaces) -> (u16, u8) {
         let (source, _) = self.sides();
         let byte = spaces.byte(*source);
-        source.step_byte();
-        in_both_halves(byte)
+        (in_both_halves(byte), source.step_byte().into())
     }
 
-    fn funnel(&mut self, spaces: &mut Spaces) -> Result<u16, Refusal> {
+    fn funnel(&mut self, spaces: &mut Spaces) -> Result<(u16, u8), Refusal> {
         let packs = self.mode & FLIP == 0;
         let (bytes, word) = (&mut self.current_a, &mut self.current_b);
         if word.is_odd() {
@@ -461,11 +462,12 @@ impl Registers {
         }
         // B's direction bit counts even where B holds.
         let low_half_first = word.tag & DOWN != 0;
+        let mut changes = 0;
         let datum = if packs {
             let first = spaces.byte(*bytes);
-            bytes.step_byte();
+            changes += u8::from(bytes.step_byte());
             let second = spaces.byte(*bytes);
-            bytes.step_byte();
+            changes += u8::from(bytes.step_byte());
             let datum = if low_half_first {
                 u16::from_le_bytes([first, second])
             } else {
@@ -481,13 +483,13 @@ impl Registers {
                 datum.to_be_bytes()
             };
             spaces.put_byte(*bytes, first);
-            bytes.step_byte();
+            changes += u8::from(bytes.step_byte());
             spaces.put_byte(*bytes, second);
-            bytes.step_byte();
+            changes += u8::from(bytes.step_byte());
             datum
         };
-        word.step_word();
-        Ok(datum)
+        changes += u8::from(word.step_word());
+        Ok((datum, changes))
     }
 
     /// Counts the unit and compares its datum; answers why the operation ends, if it does.
@@ -982,7 +984,7 @@ impl Plain {
     #[inline(always)]
     fn unit(&mut self, who: Channel, eop: bool, spaces: &mut Spaces) -> Result<Step, Refusal> {
         let channel = &mut self.channels[who as usize];
-        let datum = channel.move_datum(spaces)?;
+        let (datum, changes) = channel.move_datum(spaces)?;
         let reasons = channel.judge(datum, eop);
         self.served_last = Some(who);
         if reasons.is_empty() {
@@ -990,7 +992,8 @@ impl Plain {
         } else {
             self.end(who, reasons);
         }
-        Ok(Step::Unit(who, reasons))
+        let upper = UpperChanges::from_number(changes).expect("at most two");
+        Ok(Step::Unit(who, reasons, upper))
     }
 
     /// What becomes of bus and request after an unended unit.
@@ -1051,7 +1054,7 @@ impl Plain {
             return Ok(Step::Dropped(who));
         }
         let word = word_at(memory, channel.chain.at);
-        channel.chain.advance(2);
+        let changed = channel.chain.advance(2);
         let left = match table {
             None => Table::after_reload_word(word),
             Some(table) => channel.take(table, word),
@@ -1062,7 +1065,17 @@ impl Plain {
             self.chain = None;
             self.leave_chain(who);
         }
-        Ok(Step::Fetched(who))
+        // Where the new chain address takes the old one's place, nothing steps.
+        let upper = match table {
+            Some(Table {
+                left: 1,
+                second: true,
+                ..
+            }) => UpperChanges::None,
+            _ if changed => UpperChanges::One,
+            _ => UpperChanges::None,
+        };
+        Ok(Step::Fetched(who, upper))
     }
 
     /// What follows the last fetch of a chain.

@@ -104,11 +104,13 @@ fn check_acknowledge(answer: u32) -> bool {
 }
 
 fn check_step(answer: u32) -> bool {
-    let [_, kind, channel, reasons] = answer.to_le_bytes();
+    let [_, kind, channel, top] = answer.to_le_bytes();
+    let [reasons, upper] = [top & 0xF, top >> 4];
     match kind {
-        0..=3 => channel == 0 && reasons == 0,
-        7 => matches!(channel, 1 | 2) && reasons < 8,
-        4..=8 => matches!(channel, 1 | 2) && reasons == 0,
+        0..=3 => channel == 0 && top == 0,
+        5 => matches!(channel, 1 | 2) && reasons == 0 && upper <= 1,
+        7 => matches!(channel, 1 | 2) && reasons < 8 && upper <= 2,
+        4 | 6 | 8 => matches!(channel, 1 | 2) && top == 0,
         _ => false,
     }
 }

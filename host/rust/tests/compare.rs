@@ -29,6 +29,18 @@ const COMPARING: [(&str, &[usize], &[usize]); 2] = [
     ("bytes", &[0x5, 0xF], &[0b00, 0b11]),
 ];
 
+/// What moves in a unit, and how often the upper address byte may change in it.
+const MOVEMENTS: [(&str, u8); 3] = [("transfer", 2), ("search", 1), ("funnel", 2)];
+
+/// The row of `MOVEMENTS` for a mode's operation.
+fn movement(mode: usize) -> usize {
+    match mode & 0xF {
+        0x8 | 0x9 | 0xC | 0xD => 2,
+        0xE | 0xF => 1,
+        _ => 0,
+    }
+}
+
 #[derive(Clone, Copy, Debug)]
 enum Call {
     Fresh,
@@ -107,6 +119,9 @@ struct Tally {
     units: [[u64; 2]; 16],
     modes: [u64; 4],
     reasons: [u64; 8],
+    /// By row of `MOVEMENTS` and number of changes of the upper address byte; and of fetches.
+    unit_changes: [[u64; 3]; 3],
+    fetch_changes: [u64; 3],
     /// By row of `COMPARING`, match control, and MCH with MCL.
     compared: [[[u64; 4]; 4]; 2],
     /// By reload bit.
@@ -148,26 +163,30 @@ impl Tally {
             Step::NoteGivenBack => 2,
             Step::BusGivenBack => 3,
             Step::Holding(_) => 4,
-            Step::Fetched(_) => 5,
+            Step::Fetched(..) => 5,
             Step::Dropped(_) => 6,
             Step::Unit(..) => 7,
             Step::Ended(_) => 8,
         };
         self.kinds[kind] += 1;
         match step {
-            Step::Unit(who, reasons) => {
+            Step::Unit(who, reasons, upper) => {
                 let mode = usize::from(before.mode_low(who));
                 self.units[mode & 0xF][mode >> 4 & 1] += 1;
                 self.modes[mode >> 5 & 3] += 1;
                 self.reasons[usize::from(reasons.bits())] += 1;
+                self.unit_changes[movement(mode)][usize::from(upper.number())] += 1;
                 for ((_, operations, _), met) in COMPARING.iter().zip(&mut self.compared) {
                     if operations.contains(&(mode & 0xF)) {
                         met[before.match_control(who)][after.halves(who)] += 1;
                     }
                 }
             }
-            Step::Fetched(_) if before.reload_bits() != 0 => {
-                self.entries[top_bit(before.reload_bits()) as usize] += 1;
+            Step::Fetched(_, upper) => {
+                self.fetch_changes[usize::from(upper.number())] += 1;
+                if before.reload_bits() != 0 {
+                    self.entries[top_bit(before.reload_bits()) as usize] += 1;
+                }
             }
             _ => {}
         }
@@ -207,6 +226,20 @@ impl Tally {
         }
         for (bits, &met) in self.reasons.iter().enumerate() {
             rows.push((format!("unit with EOP, MC, TC {bits:03b}"), met));
+        }
+        for ((name, most), met) in MOVEMENTS.iter().zip(&self.unit_changes) {
+            for changes in 0..=*most {
+                rows.push((
+                    format!("{name} with {changes} changes of the upper byte"),
+                    met[usize::from(changes)],
+                ));
+            }
+        }
+        for (changes, &met) in self.fetch_changes[..2].iter().enumerate() {
+            rows.push((
+                format!("fetch with {changes} changes of the upper byte"),
+                met,
+            ));
         }
         for ((data, _, told), met) in COMPARING.iter().zip(&self.compared) {
             for (control, met) in met.iter().enumerate() {
@@ -311,6 +344,8 @@ struct Case<'a> {
     slots: [u32; 4],
     /// Whether data are drawn from few values, so that searches hit.
     few_values: bool,
+    /// Whether addresses mostly stand at the ends of pages and step, so that both of a unit's leave theirs.
+    at_ends: bool,
     tally: &'a mut Tally,
 }
 
@@ -320,11 +355,12 @@ impl<'a> Case<'a> {
         let [memory, io] =
             lengths.unwrap_or_else(|| [space_length(&mut rng), space_length(&mut rng)]);
         let few_values = rng.flag();
+        let at_ends = rng.one_in(3);
         let memory = random_space(&mut rng, memory, few_values);
         let io = random_space(&mut rng, io, few_values);
         let slots = [0; 4].map(|_| slot(&mut rng, memory.len()));
         let words = if rng.one_in(3) {
-            scattered_state(&mut rng, memory.len())
+            scattered_state(&mut rng, memory.len(), at_ends)
         } else {
             Plain::new().words()
         };
@@ -344,6 +380,7 @@ impl<'a> Case<'a> {
             state: State(words),
             slots,
             few_values,
+            at_ends,
             tally,
         }
     }
@@ -373,7 +410,8 @@ impl<'a> Case<'a> {
         }
         if let (Call::Step(false), Answer::Step(step)) = (call, plain) {
             for (who, cause) in Channel::BOTH.into_iter().zip(causes) {
-                let served = matches!(step, Ok(Step::Fetched(w) | Step::Unit(w, _)) if w == who);
+                let served =
+                    matches!(step, Ok(Step::Fetched(w, _) | Step::Unit(w, ..)) if w == who);
                 if served != (cause == Cause::NothingWrong) {
                     self.fail(&format!("{who:?}: {cause}, and then {step:?}"));
                 }
@@ -458,10 +496,10 @@ impl<'a> Case<'a> {
         match answer {
             Answer::Step(Ok(Step::Disabled)) => self.write_master_mode(),
             Answer::Step(Ok(Step::Idle)) => self.ask_for_a_unit(),
-            Answer::Step(Ok(Step::Unit(who, _))) if self.rng.one_in(4) => {
+            Answer::Step(Ok(Step::Unit(who, ..))) if self.rng.one_in(4) => {
                 self.call(Call::Line(who.into(), false));
             }
-            Answer::Step(Ok(Step::Fetched(_))) => self.small_run(),
+            Answer::Step(Ok(Step::Fetched(..))) => self.small_run(),
             // Such a refusal stays until Reset.
             Answer::Step(Err(_)) if self.state.bus_in_use() => self.reset(),
             Answer::Step(Err(_)) => self.start_some_chain(),
@@ -689,11 +727,11 @@ impl<'a> Case<'a> {
     }
 
     fn upper(&mut self) -> u16 {
-        upper_word(&mut self.rng)
+        upper_word(&mut self.rng, self.at_ends)
     }
 
     fn lower(&mut self) -> u16 {
-        lower_word(&mut self.rng, self.plain.memory.len())
+        lower_word(&mut self.rng, self.plain.memory.len(), self.at_ends)
     }
 
     fn count(&mut self) -> u16 {
@@ -765,18 +803,19 @@ fn slot(rng: &mut Rng, memory: usize) -> u32 {
     }
 }
 
-fn upper_word(rng: &mut Rng) -> u16 {
+fn upper_word(rng: &mut Rng, at_ends: bool) -> u16 {
     let address = match rng.below(16) {
         0..=11 => 0x0000,
         12..=14 => 0xFF00,
         _ => rng.word() & 0xFF00,
     };
     let space = if rng.below(3) > 0 { 0x40 } else { 0 };
-    address | space | rng.word() & 0xBF
+    let tag = rng.word() & if at_ends { 0xAF } else { 0xBF };
+    address | space | tag
 }
 
-fn lower_word(rng: &mut Rng, length: usize) -> u16 {
-    let address = match rng.below(16) {
+fn lower_word(rng: &mut Rng, length: usize, at_ends: bool) -> u16 {
+    let address = match rng.below(if at_ends { 5 } else { 16 }) {
         0..=1 => rng.below(4) as u16,
         2..=3 => 0xFFFC + rng.below(4) as u16,
         4 => rng.word(),
@@ -804,14 +843,14 @@ fn mode_low(rng: &mut Rng) -> u16 {
 }
 
 /// A state that keeps to all that calls can reach, but is otherwise random.
-fn scattered_state(rng: &mut Rng, memory: usize) -> [u16; WORDS] {
+fn scattered_state(rng: &mut Rng, memory: usize, at_ends: bool) -> [u16; WORDS] {
     let mut words = [0; WORDS];
     words[0] = rng.word() & 0x7E;
     words[1] = rng.word() & 0xF;
     words[9] = rng.below(3) as u16;
     for who in Channel::BOTH {
         let start = channel_start(who);
-        words[start..start + 31].copy_from_slice(&scattered_channel(rng, memory));
+        words[start..start + 31].copy_from_slice(&scattered_channel(rng, memory, at_ends));
     }
     let who = rng.pick(&Channel::BOTH);
     let number = u16::from(who.number());
@@ -837,11 +876,11 @@ fn scattered_state(rng: &mut Rng, memory: usize) -> [u16; WORDS] {
     words
 }
 
-fn scattered_channel(rng: &mut Rng, memory: usize) -> [u16; 31] {
+fn scattered_channel(rng: &mut Rng, memory: usize, at_ends: bool) -> [u16; 31] {
     let mut words = [0; 31];
     for address in [0, 2, 5, 7] {
-        words[address] = upper_word(rng) & 0xFFDE;
-        words[address + 1] = lower_word(rng, memory);
+        words[address] = upper_word(rng, at_ends) & 0xFFDE;
+        words[address + 1] = lower_word(rng, memory, at_ends);
     }
     words[4] = count(rng);
     words[9] = count(rng);
@@ -850,7 +889,7 @@ fn scattered_channel(rng: &mut Rng, memory: usize) -> [u16; 31] {
     words[12] = rng.word() & 0x1F;
     words[13] = mode_low(rng);
     words[14] = rng.pick(&[0, 0, 0xFF00]) | rng.word() & 6;
-    words[15] = lower_word(rng, memory);
+    words[15] = lower_word(rng, memory, at_ends);
     for flag in [16, 17, 23, 24, 25, 26, 27, 28, 29] {
         words[flag] = rng.word() & 1;
     }
@@ -920,7 +959,7 @@ fn random_calls_over_all_addresses() {
 fn every_command_byte() {
     let mut rng = Rng::new(BASE_SEED + 2);
     for _ in 0..COMMANDED_STATES {
-        let start = scattered_state(&mut rng, 0x1_0000);
+        let start = scattered_state(&mut rng, 0x1_0000, false);
         for at in Channel::BOTH {
             for byte in 0..=0xFF {
                 let command = rng.word() & 0xFF00 | byte;

@@ -3,7 +3,7 @@
 mod chip;
 
 use chip::Chip;
-use einflyga::{port, Cause, Channel, Controller, Reasons, Refusal, Step};
+use einflyga::{port, Cause, Channel, Controller, Reasons, Refusal, Step, UpperChanges};
 
 const ONE: Channel = Channel::One;
 
@@ -30,10 +30,14 @@ fn put_words(memory: &mut [u8], words: &[u16]) {
 
 /// An enabled controller whose channel 1 is about to chain from memory's start.
 fn about_to_chain<C: Chip>() -> C {
+    about_to_chain_from(0)
+}
+
+fn about_to_chain_from<C: Chip>(address: u32) -> C {
     let mut chip = C::new();
     for (port, value) in [
-        (port::CHAIN_UPPER.of(ONE), 0),
-        (port::CHAIN_LOWER.of(ONE), 0),
+        (port::CHAIN_UPPER.of(ONE), (address >> 8) as u16 & 0xFF00),
+        (port::CHAIN_LOWER.of(ONE), address as u16),
         (port::COMMAND.of(ONE), 0xA0),
         (port::MASTER_MODE, 1),
     ] {
@@ -47,7 +51,10 @@ fn chained<C: Chip>(table: &[u16], memory: &mut [u8]) -> C {
     put_words(memory, table);
     let mut chip = about_to_chain::<C>();
     for _ in table {
-        assert_eq!(chip.step(false, memory, &mut []), Ok(Step::Fetched(ONE)));
+        assert_eq!(
+            chip.step(false, memory, &mut []),
+            fetched(UpperChanges::None)
+        );
     }
     chip
 }
@@ -65,8 +72,16 @@ fn about_to_move<C: Chip>(
     chained(&table, memory)
 }
 
+fn fetched(upper: UpperChanges) -> Result<Step, Refusal> {
+    Ok(Step::Fetched(ONE, upper))
+}
+
+fn unit_with(reasons: Reasons, upper: UpperChanges) -> Result<Step, Refusal> {
+    Ok(Step::Unit(ONE, reasons, upper))
+}
+
 fn unit(reasons: Reasons) -> Result<Step, Refusal> {
-    Ok(Step::Unit(ONE, reasons))
+    unit_with(reasons, UpperChanges::None)
 }
 
 fn words_of_a_chain<C: Chip>(reload: u16) -> u32 {
@@ -85,12 +100,13 @@ fn p1_to_p3_table_lengths<C: Chip>() {
     assert_eq!(words_of_a_chain::<C>(0xFC00), 1);
 }
 
-fn current_a_after_a_unit<C: Chip>(operation: u16, a: [u16; 2]) -> [u16; 2] {
+/// Where a unit leaves A, and that it tells the changes of A's upper byte; B holds.
+fn current_a_after_a_unit<C: Chip>(operation: u16, a: [u16; 2], upper: UpperChanges) -> [u16; 2] {
     let mut memory = [0; 64];
     let mut chip = about_to_move::<C>(operation, a, [0x0050, 0x0020], 9, &mut memory);
     assert_eq!(
         chip.step(false, &mut memory, &mut []),
-        unit(Reasons::default())
+        unit_with(Reasons::default(), upper)
     );
     [port::CURRENT_A_UPPER, port::CURRENT_A_LOWER].map(|port| read(&mut chip, port.of(ONE)))
 }
@@ -99,15 +115,15 @@ fn p4_to_p6_addresses<C: Chip>() {
     let byte = 1;
     let word = 0;
     assert_eq!(
-        current_a_after_a_unit::<C>(byte, [0xFF40, 0xFFFF]),
+        current_a_after_a_unit::<C>(byte, [0xFF40, 0xFFFF], UpperChanges::One),
         [0x0040, 0x0000]
     );
     assert_eq!(
-        current_a_after_a_unit::<C>(word, [0x0048, 0x0000]),
+        current_a_after_a_unit::<C>(word, [0x0048, 0x0000], UpperChanges::One),
         [0xFF48, 0xFFFE]
     );
     assert_eq!(
-        current_a_after_a_unit::<C>(byte, [0x0000, 0x0010]),
+        current_a_after_a_unit::<C>(byte, [0x0000, 0x0010], UpperChanges::None),
         [0x0000, 0x0012]
     );
 }
@@ -239,6 +255,144 @@ fn e2_bytes_keep_their_rule<C: Chip>() {
     each_tells::<C>(&[0x05, 0x15, 0x0F, 0x1F], BYTES, told);
 }
 
+/// An address register: its address, and a tag.
+fn at(address: u32, tag: u16) -> [u16; 2] {
+    [(address >> 8) as u16 & 0xFF00 | tag, address as u16]
+}
+
+/// What a unit of this operation tells of the upper byte, from these addresses of A and B.
+fn upper_of_a_unit<C: Chip>(operation: u16, a: [u16; 2], b: [u16; 2]) -> u8 {
+    let mut memory = [0; 64];
+    let mut chip = about_to_move::<C>(operation, a, b, 9, &mut memory);
+    match chip.step(false, &mut memory, &mut []) {
+        Ok(Step::Unit(ONE, _, upper)) => upper.number(),
+        answer => panic!("{answer:?}"),
+    }
+}
+
+const MEMORY_UP: u16 = 0x40;
+const MEMORY_DOWN: u16 = 0x48;
+const MEMORY_HOLD: u16 = 0x50;
+const IO_UP: u16 = 0x00;
+const IO_DOWN: u16 = 0x08;
+
+/// With both sides at each address, upwards and then downwards, the operations tell this; a search steps its source alone.
+fn each_changes<C: Chip>(operations: &[u16], addresses: [u32; 4], told: [[u8; 4]; 2]) {
+    for &operation in operations {
+        for flip in [0, 0x10] {
+            for (tags, told) in [[MEMORY_UP, IO_UP], [MEMORY_DOWN, IO_DOWN]]
+                .iter()
+                .zip(told)
+            {
+                for &tag in tags {
+                    let upper = |address| {
+                        let both = at(address, tag);
+                        upper_of_a_unit::<C>(operation | flip, both, both)
+                    };
+                    assert_eq!(addresses.map(upper), told, "{operation:X} {flip:X} {tag:X}");
+                }
+            }
+        }
+    }
+}
+
+const WORDS_AROUND: [u32; 4] = [0x00_FFFE, 0x01_0000, 0xFF_FFFE, 0x00_0000];
+
+fn e5_units_around_the_upper_byte<C: Chip>() {
+    let bytes_around = [0x00_FFFF, 0x01_0000, 0xFF_FFFF, 0x00_0000];
+    for (operations, addresses, most) in [
+        ([0x0, 0x4].as_slice(), WORDS_AROUND, 2),
+        (&[0x1, 0x5], bytes_around, 2),
+        (&[0xE], WORDS_AROUND, 1),
+        (&[0xF], bytes_around, 1),
+        (&[0x8, 0x9, 0xC, 0xD], WORDS_AROUND, 2),
+    ] {
+        let told = [[most, 0, most, 0], [0, most, 0, most]];
+        each_changes::<C>(operations, addresses, told);
+    }
+}
+
+/// Either step of the byte side counts, but never both.
+fn e5_funnelled_bytes<C: Chip>() {
+    for operation in [0x08, 0x18, 0x0D, 0x1D] {
+        for (bytes, told) in [
+            (at(0x00_FFFD, MEMORY_UP), 0),
+            (at(0x00_FFFE, MEMORY_UP), 1),
+            (at(0x00_FFFF, MEMORY_UP), 1),
+            (at(0xFF_FFFE, MEMORY_UP), 1),
+            (at(0xFF_FFFF, MEMORY_UP), 1),
+            (at(0x01_0002, MEMORY_DOWN), 0),
+            (at(0x01_0001, MEMORY_DOWN), 1),
+            (at(0x01_0000, MEMORY_DOWN), 1),
+            (at(0x00_0001, MEMORY_DOWN), 1),
+            (at(0x00_0000, MEMORY_DOWN), 1),
+            (at(0x00_FFFB, IO_UP), 0),
+            (at(0x00_FFFC, IO_UP), 1),
+            (at(0x01_0003, IO_DOWN), 1),
+            (at(0x01_0004, IO_DOWN), 0),
+        ] {
+            let word = at(0x20_0000, MEMORY_UP);
+            assert_eq!(
+                upper_of_a_unit::<C>(operation, bytes, word),
+                told,
+                "{operation:X} {bytes:X?}"
+            );
+        }
+    }
+}
+
+fn e5_holding_never_changes<C: Chip>() {
+    for operation in [0x0, 0x1, 0x8, 0xE, 0xF, 0x1E] {
+        for address in WORDS_AROUND {
+            let both = at(address, MEMORY_HOLD);
+            assert_eq!(upper_of_a_unit::<C>(operation, both, both), 0);
+        }
+    }
+}
+
+/// A chain from 00FFFCh to a new address: the second fetch leaves the page, the third steps nothing.
+fn e5_fetches<C: Chip>() {
+    let mut memory = vec![0; 0x1_0002];
+    put_words(&mut memory[0xFFFC..], &[0x0001, 0x0100, 0xFFFE]);
+    let mut chip = about_to_chain_from::<C>(0x00_FFFC);
+    for upper in [UpperChanges::None, UpperChanges::One, UpperChanges::None] {
+        assert_eq!(chip.step(false, &mut memory, &mut []), fetched(upper));
+    }
+    assert_eq!(read(&mut chip, port::CHAIN_UPPER.of(ONE)), 0x0100);
+    // Beyond memory the word is FFFFh; a fetch past the last address wraps.
+    let mut chip = about_to_chain_from::<C>(0xFF_FFFE);
+    assert_eq!(
+        chip.step(false, &mut [], &mut []),
+        fetched(UpperChanges::One)
+    );
+    assert_eq!(read(&mut chip, port::CHAIN_UPPER.of(ONE)), 0x0000);
+}
+
+/// A run tells its last step's changes, and a reload from base is no step.
+fn e5_runs_and_reloads<C: Chip>() {
+    let reload_on_tc = 0x0400;
+    let mut memory = [0; 64];
+    let mut chip = about_to_move::<C>(
+        reload_on_tc,
+        at(0x00_FFFC, MEMORY_UP),
+        at(0x00_0020, MEMORY_UP),
+        2,
+        &mut memory,
+    );
+    let run = chip.run(2, &mut memory, &mut []).unwrap();
+    assert_eq!(run.last, unit_with(Reasons::TC, UpperChanges::One));
+    assert_eq!(read(&mut chip, port::CURRENT_A_UPPER.of(ONE)), 0x0000);
+    let mut chip = about_to_move::<C>(
+        reload_on_tc,
+        at(0x01_0000, MEMORY_UP),
+        at(0x01_0000, MEMORY_UP),
+        1,
+        &mut memory,
+    );
+    assert_eq!(chip.step(false, &mut memory, &mut []), unit(Reasons::TC));
+    assert_eq!(read(&mut chip, port::CURRENT_A_UPPER.of(ONE)), 0x0000);
+}
+
 fn p12_interrupt_commands<C: Chip>() {
     let mut chip = C::new();
     write(&mut chip, port::COMMAND.of(ONE), 0x36).unwrap();
@@ -324,6 +478,11 @@ on_both_sides! {
     match_at_terminal_count
     e2_words_tell_each_half
     e2_bytes_keep_their_rule
+    e5_units_around_the_upper_byte
+    e5_funnelled_bytes
+    e5_holding_never_changes
+    e5_fetches
+    e5_runs_and_reloads
     p12_interrupt_commands
     refused_commands
     pointer

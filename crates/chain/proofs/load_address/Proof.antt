@@ -13,4 +13,4 @@ load-address-spec =
     (λ c. rw (c .what-next .ensures, c .before .rest .ensures, c .before .before .before .before .if1 .taken))
     (λ c κs. search needs)
     (λ c κs. search needs)
-    (λ c. rw (c .kept-chain .ensures, c .before .advance .ensures, c .before .before .if1 .left)))
+    (λ c. rw (c .kept-chain .ensures, c .before .before .advance .ensures .0, c .before .before .advance .ensures .1, c .before .before .before .if1 .left)))

@@ -13,4 +13,4 @@ load-entry-spec =
     (λ c κs. search needs)
     (λ c κs. search needs)
     (λ c κs. search needs)
-    (λ c. let a = c .before .before .before .before .before .args in register-loads (a .e) (a .p) (a .w) (a .c) _ (c .before .before .before .before .is-chain-address .ensures) _ _ _ (c .before .before .before .if1 .left) (c .before .before .advance .ensures) (c .before .load .ensures) (c .after-register .ensures)))
+    (λ c. let a = c .before .before .before .before .before .args in register-loads (a .e) (a .p) (a .w) (a .c) _ (c .before .before .before .before .is-chain-address .ensures) _ _ _ _ (c .before .before .before .if1 .left) (c .before .before .advance .ensures) (c .before .load .ensures) (c .after-register .ensures)))

@@ -10,4 +10,4 @@ load-reload-spec =
     (tie.spec
     (λ c κs. search needs)
     (λ c κs. search needs)
-    (λ c. rw (c .what-next .ensures, c .before .advance .ensures)))
+    (λ c. rw (c .what-next .ensures, c .before .before .advance .ensures .0, c .before .before .advance .ensures .1)))

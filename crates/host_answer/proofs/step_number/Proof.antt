@@ -43,7 +43,7 @@ step-number-spec =
     (λ c. search needs)
     (λ c. search needs)
     (λ c. rw (c .before .before .before .a3 .given .1, c .pack5 .ensures, c .before .channel-number .ensures))
-    (λ c. rw (c .before .before .before .a4 .given .1, c .pack6 .ensures, c .before .channel-number2 .ensures))
+    (λ c. rw (c .before .before .before .before .a4 .given .1, c .pack6 .ensures, c .before .fetch-half .ensures, c .before .before .channel-number2 .ensures))
     (λ c. rw (c .before .before .before .a5 .given .1, c .pack7 .ensures, c .before .channel-number3 .ensures))
     (λ c. rw (c .before .before .before .before .a6 .given .1, c .pack8 .ensures, c .before .unit-half .ensures, c .before .before .channel-number4 .ensures))
     (λ c. rw (c .before .before .before .a7 .given .1, c .pack9 .ensures, c .before .channel-number5 .ensures)))

@@ -13,6 +13,7 @@ bytes-to-word-spec =
     (λ c κs. search needs)
     (λ c κs. search needs)
     (λ c κs. search needs)
+    (λ c κs. search needs)
     (λ c. search needs)
     (λ c. search needs)
-    (λ c. let a = c .before .before .before .before .before .before .before .before .before .before .before .before .before .before .before .before .before .before .args in bytes-made (a .s) _ _ _ _ _ _ _ _ _ _ (c .before .before .before .before .before .before .before .before .before .before .before .before .before .read-on .ensures) (c .before .before .before .before .before .before .before .before .before .before .read-on2 .ensures) (c .before .before .before .before .before .before .before .before .before .is-high-first .ensures) (c .before .before .before .before .before .before .before .before .join .ensures) (c .before .before .before .before .before .write-on .ensures) (c .next-set .ensures)))
+    (λ c. let a = c .before .before .before .before .before .before .before .before .before .before .before .before .before .before .before .before .before .before .before .args in bytes-made (a .s) _ _ _ _ _ _ _ _ _ _ _ (c .before .before .before .before .before .before .before .before .before .before .before .before .before .before .read-on .ensures) (c .before .before .before .before .before .before .before .before .before .before .before .read-on2 .ensures) (c .before .before .before .before .before .before .before .before .before .before .is-high-first .ensures) (c .before .before .before .before .before .before .before .before .before .join .ensures) (c .before .before .before .before .before .before .write-on .ensures) (c .before .next-set .ensures) (c .count-changes .ensures)))

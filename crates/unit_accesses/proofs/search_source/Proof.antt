@@ -11,4 +11,5 @@ search-source-spec =
     (λ c κs. search needs)
     (λ c κs. search needs)
     (λ c κs. search needs)
-    (λ c. let a = c .before .before .before .before .before .before .args in search-made (a .flip) (a .s) (a .w) _ _ _ _ _ _ (c .before .before .before .source .ensures) (c .before .before .read-on .ensures) (c .before .destination .ensures) (c .next-set .ensures)))
+    (λ c κs. search needs)
+    (λ c. let a = c .before .before .before .before .before .before .before .args in search-made (a .flip) (a .s) (a .w) _ _ _ _ _ _ _ (c .before .before .before .before .source .ensures) (c .before .before .before .read-on .ensures) (c .before .before .destination .ensures) (c .before .next-set .ensures) (c .count-changes .ensures)))

@@ -12,6 +12,7 @@ transfer-spec =
     (λ c κs. search needs)
     (λ c κs. search needs)
     (λ c κs. search needs)
+    (λ c κs. search needs)
     (λ c. search needs)
     (λ c. search needs)
-    (λ c. let a = c .before .before .before .before .before .before .before .before .before .before .before .before .before .before .before .args in transfer-made (a .flip) (a .s) (a .w) _ _ _ _ _ _ _ _ (c .before .before .before .before .before .before .before .before .before .before .before .before .source .ensures) (c .before .before .before .before .before .before .before .before .before .read-on .ensures) (c .before .before .before .before .before .before .before .before .destination .ensures) (c .before .before .before .before .before .write-on .ensures) (c .next-set .ensures)))
+    (λ c. let a = c .before .before .before .before .before .before .before .before .before .before .before .before .before .before .before .before .args in transfer-made (a .flip) (a .s) (a .w) _ _ _ _ _ _ _ _ _ (c .before .before .before .before .before .before .before .before .before .before .before .before .before .source .ensures) (c .before .before .before .before .before .before .before .before .before .before .read-on .ensures) (c .before .before .before .before .before .before .before .before .before .destination .ensures) (c .before .before .before .before .before .before .write-on .ensures) (c .before .next-set .ensures) (c .count-changes .ensures)))

@@ -14,6 +14,7 @@ word-to-bytes-spec =
     (λ c κs. search needs)
     (λ c κs. search needs)
     (λ c κs. search needs)
+    (λ c κs. search needs)
     (λ c. search needs)
     (λ c. search needs)
-    (λ c. let a = c .before .before .before .before .before .before .before .before .before .before .before .before .before .before .before .before .before .before .before .before .before .before .before .args in word-made (a .s) _ _ _ _ _ _ _ _ _ _ _ (c .before .before .before .before .before .before .before .before .before .before .before .before .before .before .before .before .before .before .before .before .is-high-first .ensures) (c .before .before .before .before .before .before .before .before .before .before .before .before .before .before .before .before .before .read-on .ensures) (c .before .before .before .before .before .before .before .before .before .before .before .before .before .before .before .before .first-half .ensures) (c .before .before .before .before .before .before .before .before .before .before .before .before .before .write-on .ensures) (c .before .before .before .before .before .before .before .before .second-half .ensures) (c .before .before .before .before .before .write-on2 .ensures) (c .next-set .ensures)))
+    (λ c. let a = c .before .before .before .before .before .before .before .before .before .before .before .before .before .before .before .before .before .before .before .before .before .before .before .before .args in word-made (a .s) _ _ _ _ _ _ _ _ _ _ _ _ (c .before .before .before .before .before .before .before .before .before .before .before .before .before .before .before .before .before .before .before .before .before .is-high-first .ensures) (c .before .before .before .before .before .before .before .before .before .before .before .before .before .before .before .before .before .before .read-on .ensures) (c .before .before .before .before .before .before .before .before .before .before .before .before .before .before .before .before .before .first-half .ensures) (c .before .before .before .before .before .before .before .before .before .before .before .before .before .before .write-on .ensures) (c .before .before .before .before .before .before .before .before .before .second-half .ensures) (c .before .before .before .before .before .before .write-on2 .ensures) (c .before .next-set .ensures) (c .count-changes .ensures)))

@@ -20,7 +20,7 @@ turn-limit-requires : tie.Need-turn-limit-requires Inv-loop μ-loop
 turn-limit-requires c κs = search needs
 
 loop-holds : tie.Need-loop-holds Inv-loop μ-loop
-loop-holds c = record { memory-long = refl; io-long = refl; first = λ e o. refl; reached = begun (unitTurns _ (c .before .before .before .before .before .before .args .both)) _ _ }
+loop-holds c = record { memory-long = refl; io-long = refl; first = λ e o. refl; told = λ e. absurd (true≢false e); reached = begun (unitTurns _ (c .before .before .before .before .before .before .args .both)) _ _ }
 
 move-on-requires : tie.Need-move-on-requires Inv-loop μ-loop
 move-on-requires c κs = search needs
@@ -30,7 +30,7 @@ add-units c =
     let l = c .before .before .before .before .before .before .before .before .before .before .loop in
     let k = c .before .before .before .before .before .before .move-on in
     let t : PairLoop _ (c .before .before .before .before .before .before .before .before .before .before .before .before .before .before .before .before .before .args .both) (c .before .before .before .before .before .before .before .before .before .before .before .before .before .before .before .before .before .args .limit) _ _ (l .next) (spaces (l .memory) (l .io)) (spaces (k .last .1 .1 .1 .0) (k .last .1 .1 .1 .1 .0)) _ (k .result .moved) (l .units) (k .result .units) (l .going) =
-    record { limited = c .before .before .before .before .before .before .before .before .before .before .before .before .before .before .turn-limit .ensures; going = c .before .before .before .before .before .before .before .before .before .loop-test .taken; first = l .inv .first; reached = l .inv .reached; moved = k .ensures } in
+    record { limited = c .before .before .before .before .before .before .before .before .before .before .before .before .before .before .turn-limit .ensures; going = c .before .before .before .before .before .before .before .before .before .loop-test .taken; first = l .inv .first; reached = l .inv .reached; moved = k .ensures .0 } in
     omega (arith, counts _ t, c .before .before .before .before .before .before .before .before .before .before .before .before .before .before .before .before .before .fits .limit)
 
 pass-requires : tie.Need-pass-requires Inv-loop μ-loop
@@ -44,7 +44,7 @@ loop-less c =
     let l = c .before .before .before .before .before .before .before .before .before .before .before .before .before .loop in
     let k = c .before .before .before .before .before .before .before .before .before .move-on in
     let t : PairLoop _ (c .before .before .before .before .before .before .before .before .before .before .before .before .before .before .before .before .before .before .before .before .args .both) (c .before .before .before .before .before .before .before .before .before .before .before .before .before .before .before .before .before .before .before .before .args .limit) _ _ (l .next) (spaces (l .memory) (l .io)) (spaces (k .last .1 .1 .1 .0) (k .last .1 .1 .1 .1 .0)) _ (k .result .moved) (l .units) (k .result .units) (l .going) =
-    record { limited = c .before .before .before .before .before .before .before .before .before .before .before .before .before .before .before .before .before .turn-limit .ensures; going = c .before .before .before .before .before .before .before .before .before .before .before .before .loop-test .taken; first = l .inv .first; reached = l .inv .reached; moved = k .ensures } in
+    record { limited = c .before .before .before .before .before .before .before .before .before .before .before .before .before .before .before .before .before .turn-limit .ensures; going = c .before .before .before .before .before .before .before .before .before .before .before .before .loop-test .taken; first = l .inv .first; reached = l .inv .reached; moved = k .ensures .0 } in
     less-two _ (c .follows .result) (c .before .before .if1 .taken) t
 
 loop-again : tie.Need-loop-again Inv-loop μ-loop
@@ -52,11 +52,12 @@ loop-again c =
     let l = c .before .before .before .before .before .before .before .before .before .before .before .before .before .loop in
     let k = c .before .before .before .before .before .before .before .before .before .move-on in
     let t : PairLoop _ (c .before .before .before .before .before .before .before .before .before .before .before .before .before .before .before .before .before .before .before .before .args .both) (c .before .before .before .before .before .before .before .before .before .before .before .before .before .before .before .before .before .before .before .before .args .limit) _ _ (l .next) (spaces (l .memory) (l .io)) (spaces (k .last .1 .1 .1 .0) (k .last .1 .1 .1 .1 .0)) _ (k .result .moved) (l .units) (k .result .units) (l .going) =
-    record { limited = c .before .before .before .before .before .before .before .before .before .before .before .before .before .before .before .before .before .turn-limit .ensures; going = c .before .before .before .before .before .before .before .before .before .before .before .before .loop-test .taken; first = l .inv .first; reached = l .inv .reached; moved = k .ensures } in
+    record { limited = c .before .before .before .before .before .before .before .before .before .before .before .before .before .before .before .before .before .turn-limit .ensures; going = c .before .before .before .before .before .before .before .before .before .before .before .before .loop-test .taken; first = l .inv .first; reached = l .inv .reached; moved = k .ensures .0 } in
     record {
       memory-long = k .kept .1 .1 .1 .0 ∙ l .inv .memory-long;
       io-long = k .kept .1 .1 .1 .1 .0 ∙ l .inv .io-long;
       first = λ e o. absurd (true≢false (sym (c .before .before .if1 .taken) ∙ e));
+      told = λ e. k .ensures .1;
       reached = turned-two _ (c .follows .result) (c .before .pass .result) (c .before .before .if1 .taken) (c .before .pass .ensures) (c .follows .ensures) t;
     }
 
@@ -65,7 +66,7 @@ loop-less-2 c =
     let l = c .before .before .before .before .before .before .before .before .before .before .before .loop in
     let k = c .before .before .before .before .before .before .before .move-on in
     let t : PairLoop _ (c .before .before .before .before .before .before .before .before .before .before .before .before .before .before .before .before .before .before .args .both) (c .before .before .before .before .before .before .before .before .before .before .before .before .before .before .before .before .before .before .args .limit) _ _ (l .next) (spaces (l .memory) (l .io)) (spaces (k .last .1 .1 .1 .0) (k .last .1 .1 .1 .1 .0)) _ (k .result .moved) (l .units) (k .result .units) (l .going) =
-    record { limited = c .before .before .before .before .before .before .before .before .before .before .before .before .before .before .before .turn-limit .ensures; going = c .before .before .before .before .before .before .before .before .before .before .loop-test .taken; first = l .inv .first; reached = l .inv .reached; moved = k .ensures } in
+    record { limited = c .before .before .before .before .before .before .before .before .before .before .before .before .before .before .before .turn-limit .ensures; going = c .before .before .before .before .before .before .before .before .before .before .loop-test .taken; first = l .inv .first; reached = l .inv .reached; moved = k .ensures .0 } in
     less-one _ (c .if1 .left) t
 
 loop-again-2 : tie.Need-loop-again-2 Inv-loop μ-loop
@@ -73,22 +74,29 @@ loop-again-2 c =
     let l = c .before .before .before .before .before .before .before .before .before .before .before .loop in
     let k = c .before .before .before .before .before .before .before .move-on in
     let t : PairLoop _ (c .before .before .before .before .before .before .before .before .before .before .before .before .before .before .before .before .before .before .args .both) (c .before .before .before .before .before .before .before .before .before .before .before .before .before .before .before .before .before .before .args .limit) _ _ (l .next) (spaces (l .memory) (l .io)) (spaces (k .last .1 .1 .1 .0) (k .last .1 .1 .1 .1 .0)) _ (k .result .moved) (l .units) (k .result .units) (l .going) =
-    record { limited = c .before .before .before .before .before .before .before .before .before .before .before .before .before .before .before .turn-limit .ensures; going = c .before .before .before .before .before .before .before .before .before .before .loop-test .taken; first = l .inv .first; reached = l .inv .reached; moved = k .ensures } in
+    record { limited = c .before .before .before .before .before .before .before .before .before .before .before .before .before .before .before .turn-limit .ensures; going = c .before .before .before .before .before .before .before .before .before .before .loop-test .taken; first = l .inv .first; reached = l .inv .reached; moved = k .ensures .0 } in
     record {
       memory-long = k .kept .1 .1 .1 .0 ∙ l .inv .memory-long;
       io-long = k .kept .1 .1 .1 .1 .0 ∙ l .inv .io-long;
       first = λ e o. absurd (true≢false (sym o));
+      told = λ e. k .ensures .1;
       reached = done-one _ (c .if1 .left) t;
     }
 
+changes-behind-requires : tie.Need-changes-behind-requires Inv-loop μ-loop
+changes-behind-requires c κs = search needs
+
 same-length : tie.Need-same-length Inv-loop μ-loop
-same-length c = c .before .before .loop .inv .memory-long
+same-length c = c .before .before .before .loop .inv .memory-long
 
 same-length-2 : tie.Need-same-length-2 Inv-loop μ-loop
-same-length-2 c = c .before .before .loop .inv .io-long
+same-length-2 c = c .before .before .before .loop .inv .io-long
 
 returns : tie.Need-returns Inv-loop μ-loop
-returns c = let l = c .before .before .loop in all-done (unitTurns _ (c .before .before .before .before .before .before .before .before .before .args .both)) _ _ _ _ _ (l .going) (c .before .loop-test .left) (l .inv .reached)
+returns c =
+    let l = c .before .before .before .loop in
+    let off = c .before .before .loop-test .left in
+    rw (c .changes-behind .ensures ∙ l .inv .told off) (all-done (unitTurns _ (c .before .before .before .before .before .before .before .before .before .before .args .both)) _ _ _ _ _ (l .going) off (l .inv .reached))
 
 pub carry-on-spec : {M : Type 1} → statement M
 carry-on-spec =
@@ -106,6 +114,7 @@ carry-on-spec =
     loop-again
     loop-less-2
     loop-again-2
+    changes-behind-requires
     same-length
     same-length-2
     returns)

@@ -1,13 +1,16 @@
 use Prim.Native.Nat.{_-_, _+_}
 use native.Mathlib.Omega.{arith}
-use mathlib.Core.Path.{refl, ap, _∙_}
-use mathlib.Core.Bool.{cond, _&&_}
+use mathlib.Core.Path.{refl, sym, ap, subst, _∙_}
+use mathlib.Core.Bool.{cond, _&&_, true≢false}
 use lib.Dec.{ltb}
 use borrow.Author.Needs.{needs}
 use Rattle.facts.proofs.Rows.{begun, on-yet, all-done, turn, fewer-left}
 use Rattle.space.specs.Space.{spaces}
 use Rattle.unit_stride.specs.Units.{follows, moveTurns}
-use Rattle.unit_stride.proofs.CodeLaws.{UnitLoop}
+use Rattle.word_mode.specs.declared.Mode.{Mode}
+use Rattle.unit.specs.declared.Work.{Work}
+use Rattle.word_address.specs.Address.{SixteenBitsEach}
+use Rattle.unit_stride.proofs.CodeLaws.{Tells, tells, words-left, UnitLoop}
 use Rattle.unit_stride.proofs.move_on.Statement.{statement}
 use Rattle.unit_stride.proofs.move_on.Tie as tie
 
@@ -18,7 +21,14 @@ abbrev μ-loop : tie.MeasureT-loop
 μ-loop board limit memory₀ io₀ work₀ moved₀ units₀ going₀ memory io work moved units going = cond going (limit + 1 - units) 0
 
 loop-holds : tie.Need-loop-holds Inv-loop μ-loop
-loop-holds c = record { memory-long = refl; io-long = refl; reached = begun (moveTurns _) _ _ }
+loop-holds c = record {
+  memory-long = refl;
+  io-long = refl;
+  mode = refl;
+  words = record { a = record { upper = omega arith; lower = omega arith }; b = record { upper = omega arith; lower = omega arith } };
+  told = λ e. absurd (true≢false e);
+  reached = begun (moveTurns _) _ _;
+}
 
 carry-requires : tie.Need-carry-requires Inv-loop μ-loop
 carry-requires c κs = search needs
@@ -48,6 +58,9 @@ loop-again c =
     record {
       memory-long = k .kept .1 .0 ∙ l .inv .memory-long;
       io-long = k .kept .1 .1 .0 ∙ l .inv .io-long;
+      mode = ap (λ (w : Work). w .mode) (c .before .onward .ensures) ∙ l .inv .mode;
+      words = subst (λ (w : Work). SixteenBitsEach (w .set)) (sym (c .before .onward .ensures)) (words-left (l .work) _ _ (k .result) (l .inv .words) (k .ensures));
+      told = λ e. subst (λ (m : Mode). Tells m (k .result)) (l .inv .mode) (tells (l .work) _ _ (k .result) (l .inv .words) (k .ensures));
       reached = turn (moveTurns _) _ _ _ _ _ (r .0) (r .1) (k .ensures) _ _
           (c .follows .ensures ∙ ap (follows _ (k .result)) (c .before .onward .ensures))
           (λ j. record { work = c .before .onward .ensures j; spaces = spaces (k .last .1 .0) (k .last .1 .1 .0) });
@@ -60,7 +73,7 @@ same-length-2 : tie.Need-same-length-2 Inv-loop μ-loop
 same-length-2 c = c .before .loop .inv .io-long
 
 returns : tie.Need-returns Inv-loop μ-loop
-returns c = let l = c .before .loop in all-done (moveTurns _) _ _ _ _ _ (l .going) (c .loop-test .left) (l .inv .reached)
+returns c = let l = c .before .loop in (all-done (moveTurns _) _ _ _ _ _ (l .going) (c .loop-test .left) (l .inv .reached), l .inv .told (c .loop-test .left))
 
 pub move-on-spec : {M : Type 1} → statement M
 move-on-spec =

@@ -11,4 +11,5 @@ fetched-spec =
     (λ c κs. search needs)
     (λ c κs. search needs)
     (λ c κs. search needs)
-    (λ c. rw (c .with-number .ensures, c .before .stepped .ensures, c .before .before .number .ensures)))
+    (λ c κs. search needs)
+    (λ c. rw (c .step-to .ensures, c .before .with-number .ensures, c .before .before .stepped .ensures, c .before .before .before .number .ensures)))

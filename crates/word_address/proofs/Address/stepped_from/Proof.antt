@@ -14,4 +14,5 @@ stepped-from-spec =
     (λ c κs. search needs)
     (λ c κs. search needs)
     (λ c κs. search needs)
-    (λ c. rw (c .with-number .ensures, c .before .stepped .ensures, c .before .before .step-of .ensures, c .before .before .before .step-size .ensures .0, c .before .before .before .before .is-memory .ensures, c .before .before .before .before .before .pre)))
+    (λ c κs. search needs)
+    (λ c. rw (c .step-to .ensures, c .before .with-number .ensures, c .before .before .stepped .ensures, c .before .before .before .step-of .ensures, c .before .before .before .before .step-size .ensures .0, c .before .before .before .before .before .is-memory .ensures, c .before .before .before .before .before .before .pre)))
