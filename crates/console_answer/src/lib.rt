@@ -16,11 +16,11 @@ use text_print::Text;
 use word_mode::Reasons;
 
 // A word where it applies.
-fn reason(t: Text, applies: bool, name: &[u8]) -> Text
-    ensures { λ r. ⌜ written r ≡ appended (written t) (ifSo applies (now (name .entry))) ⌝ }
+fn if_so(t: Text, applies: bool, words: &[u8]) -> Text
+    ensures { λ r. ⌜ written r ≡ appended (written t) (ifSo applies (now (words .entry))) ⌝ }
 {
     if applies {
-        return t.with(name);
+        return t.with(words);
     }
     t
 }
@@ -28,8 +28,8 @@ fn reason(t: Text, applies: bool, name: &[u8]) -> Text
 fn reasons(t: Text, why: Reasons) -> Text
     ensures { λ r. ⌜ written r ≡ appended (written t) (reasonsOf why) ⌝ }
 {
-    reason(
-        reason(reason(t, why.tc, b" TC"), why.mc, b" MC"),
+    if_so(
+        if_so(if_so(t, why.tc, b" TC"), why.mc, b" MC"),
         why.eop,
         b" EOP",
     )
@@ -54,7 +54,7 @@ fn answer(t: Text, a: Answer) -> Text
         Answer::Idle => t.with(b"0 idle"),
         Answer::GivenBack(_) => t.with(b"0 given back"),
         Answer::Holding(w) => t.channel(w).with(b" holding"),
-        Answer::Fetched(w, d) => reason(t.channel(w).with(b" fetched"), d.upper, b" upper 1"),
+        Answer::Fetched(w, d) => if_so(t.channel(w).with(b" fetched"), d.upper, b" upper 1"),
         Answer::Dropped(w) => t.channel(w).with(b" dropped"),
         Answer::Unit(w, d) => upper(reasons(t.channel(w).with(b" unit"), d.why), d.upper),
         Answer::Ended(w) => t.channel(w).with(b" ended"),

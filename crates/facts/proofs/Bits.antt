@@ -1,5 +1,5 @@
 -- Flags and the words that they make. Assumes nothing.
-use Prim.Native.Nat.{ℕ, zero, suc, _+_, _*_, _/_, _%_, _^_}
+use Prim.Native.Nat.{ℕ, zero, suc, _+_, _*_, _/_, _%_, _^_, _≤_}
 use mathlib.Core.Path.{_≡_}
 use mathlib.Core.Bool.{Bool, true, false}
 use mathlib.Core.List.{List, [], _∷_}
@@ -8,6 +8,10 @@ use native.Mathlib.Numerals.{one-add}
 use native.Mathlib.Omega.{arith}
 use lib.Pow.{shr-shr}
 use Rattle.facts.specs.Bits.{bitIf}
+
+pub bit-le : (b : Bool) (v : ℕ) → bitIf b v ≤ v
+bit-le true v = omega arith
+bit-le false v = omega arith
 
 -- the word of flags from bit 0 up
 abbrev pub wordOf : List Bool → ℕ

@@ -54,6 +54,18 @@ five = record { a = record { upper = 0x0040; lower = 0x0200 }; b = record { uppe
 abbrev pub changes-upper : Width → Address → Bool
 changes-upper w a = stepTo a (steppedOn w a) .upper
 
+-- how many of the steps change them of a unit with this operation, from 00FFFEh of memory up on both sides
+abbrev pub changes-by : ℕ → ℕ
+changes-by operation =
+    let end = record { upper = 0x0040; lower = 0xFFFE } in
+    movedOf (record {
+      set = record { a = end; b = end; count = 9 };
+      mode = record { high = 0; low = operation };
+      pattern = 0;
+      mask = 0;
+      kept = record { mch = false; mcl = false; met = false };
+    }) 0 .upper
+
 -- channel 1 with CIE and IP set, save loaded
 abbrev pub interrupting : Controller → Controller
 interrupting u = with One (withIp One (at One u ⟨interrupt≔ at One u .interrupt ⟨cie≔ true ⟩ ⟩)) u
@@ -73,6 +85,8 @@ pub record Points : Type 0 where
       × (changes-upper Byte (record { upper = 0x0000; lower = 0x0010 }) ≡ false)
       × (changes-upper Byte (record { upper = 0x0040; lower = 0xFFFF }) ≡ true)
       × (changes-upper Byte (record { upper = 0x0050; lower = 0xFFFF }) ≡ false)
+  -- A word transfer from 00FFFEh up on both sides changes them twice, a word search once, bytes funnelled to a word twice (E5).
+  pub e5-units : (changes-by 0x0 ≡ 2) × (changes-by 0xE ≡ 1) × (changes-by 0x8 ≡ 2)
   -- Count 0000 becomes FFFFh without TC; count 1 becomes 0 with TC: by any unit.
   pub p7 : (w : Work) (datum : ℕ) → (movedOf (counted 0 w) datum .set .count ≡ 0xFFFF) × (movedOf (counted 0 w) datum .tc ≡ false)
   pub p8 : (w : Work) (datum : ℕ) → (movedOf (counted 1 w) datum .set .count ≡ 0) × (movedOf (counted 1 w) datum .tc ≡ true)

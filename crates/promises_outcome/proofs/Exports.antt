@@ -14,12 +14,12 @@ use mathlib.Core.Path.{_≡_, refl, sym, ap, subst, _∙_}
 use mathlib.Core.Bool.{Bool, true, false, cond}
 use mathlib.Core.Logic.{_≢_}
 use mathlib.Core.List.{List, [], _∷_}
-use Prim.Native.Nat.{ℕ, zero, suc, _/_, _<_, _≤_}
+use Prim.Native.Nat.{ℕ, zero, suc, _/_, _<_}
 use native.Mathlib.Nat.{zero-lt-suc, mod-eq-of-lt}
 use native.Mathlib.Omega.{arith}
 use lib.Dec.{ltb}
 use borrow.Author.Tests.{lt-ltb}
-use Rattle.facts.specs.Bits.{bitIf}
+use Rattle.facts.proofs.Bits.{bit-le}
 use Rattle.facts.specs.First.{firstOf, Exactly}
 use Rattle.space.specs.Space.{Spaces}
 use Rattle.space_board.specs.declared.Board.{Board}
@@ -165,12 +165,8 @@ channel-small : (w : Which) → channelNumber w < 3
 channel-small One = omega arith
 channel-small Two = omega arith
 
-bit-small : (b : Bool) (v : ℕ) → bitIf b v ≤ v
-bit-small true v = omega arith
-bit-small false v = omega arith
-
 half-fits : (w : Which) (why : Reasons) (upper : ℕ) → unitHalf (channelNumber w) why upper < 65536
-half-fits w why upper = omega (arith, channel-small w, bit-small (why .tc) 0x100, bit-small (why .mc) 0x200, bit-small (why .eop) 0x400)
+half-fits w why upper = omega (arith, channel-small w, bit-le (why .tc) 0x100, bit-le (why .mc) 0x200, bit-le (why .eop) 0x400)
 
 of-channel : (kind : ℕ) (w : Which) → kind < 256 → packed kind (channelNumber w) < 4294967296
 of-channel kind w h = omega (arith, channel-small w)
@@ -182,7 +178,7 @@ step-fits Idle h = omega arith
 step-fits (GivenBack Note) h = omega arith
 step-fits (GivenBack Bus) h = omega arith
 step-fits (Holding w) h = of-channel 4 w (omega arith)
-step-fits (Fetched w d) h = omega (arith, channel-small w, bit-small (d .upper) 0x1000)
+step-fits (Fetched w d) h = omega (arith, channel-small w, bit-le (d .upper) 0x1000)
 step-fits (Dropped w) h = of-channel 6 w (omega arith)
 step-fits (Unit w d) h = omega (arith, half-fits w (d .why) (d .upper))
 step-fits (Ended w) h = of-channel 8 w (omega arith)

@@ -1,17 +1,16 @@
 -- Document 02, E5: the number that a step's answer carries is the sum over the steps that it makes, and at most 2. Assumes nothing.
 use mathlib.Core.Path.{_≡_, refl, sym, ap, subst, _∙_}
-use mathlib.Core.Bool.{Bool, true, false, not, cond, _&&_, true≢false}
+use mathlib.Core.Bool.{Bool, true, false, not, cond}
 use mathlib.Core.List.{List, [], _∷_, _++_}
 use Prim.Native.Nat.{ℕ, _+_, _-_, _*_, _/_, _%_, _≤_, _<_}
 use native.Mathlib.Omega.{arith}
 use lib.Dec.{eqb}
 use borrow.Author.Tests.{eq-eqb, ne-eqb}
 use Rattle.facts.specs.Bits.{bitIf}
+use Rattle.facts.proofs.Bits.{bit-le}
 use Rattle.port.specs.declared.Which.{Which}
-use Rattle.space.specs.Space.{Spaces}
-use Rattle.space_board.specs.Board.{boardOf}
 use Rattle.space.specs.declared.Width.the-variants.{Byte, Word}
-use Rattle.stepping.specs.Stepping.{stepSize, Direction, Up, Down, Hold, moved}
+use Rattle.stepping.specs.Stepping.{stepSize, Up}
 use Rattle.stepping.proofs.Laws.{moved-lt}
 use Rattle.word_tag.specs.Tag.{isMemory, directionOf}
 use Rattle.word_address.specs.declared.Address.{Address}
@@ -27,14 +26,12 @@ use Rattle.unit_accesses.specs.Accesses.{Access, readsOf, writesOf, changes, up
 use Rattle.unit.specs.Unit.{movedOf, worked}
 use Rattle.unit_stride.specs.Behind.{cameOver, sizeAt, changesBehind}
 use Rattle.unit_stride.proofs.Behind.{stepped-words, behind}
-use Rattle.channel.specs.declared.Channel.{Channel}
 use Rattle.chain.specs.Chaining.{fetchedOf}
 use Rattle.chain.proofs.Upper.{reload-tells, entries-tell}
 use Rattle.step_rules.specs.declared.Choice.{Choice}
 use Rattle.step_rules.specs.declared.Choice.the-variants as chosen
 use Rattle.step.specs.declared.Controller.{Controller}
 use Rattle.step.specs.Controller.{at}
-use Rattle.step.specs.Choice.{choice}
 use Rattle.step.specs.Answers.{paper}
 use Rattle.step.specs.Fetching.{fetchOf, dropOf}
 use Rattle.step.specs.Step.{holdOf, performOf, stepOf, unitOf}
@@ -92,14 +89,10 @@ module _ (s : Set) (h : SixteenBitsEach s) where
   writes-each Funnel true = (h .a, (stepped-words _ (s .a), tt))
   writes-each Funnel false = (h .b, tt)
 
-bit-le : (b : Bool) → bitIf b 1 ≤ 1
-bit-le true = omega arith
-bit-le false = omega arith
-
 two-at-most : (m : Moves) (flip : Bool) (s : Set) → changesBehind m flip s ≤ 2
-two-at-most (Transfer w) flip s = omega (arith, bit-le (cameOver (sizeAt w (s .a)) (s .a)), bit-le (cameOver (sizeAt w (s .b)) (s .b)))
-two-at-most (Search w) flip s = omega (arith, bit-le (cameOver (sizeAt w (sourceOf flip s)) (sourceOf flip s)))
-two-at-most Funnel flip s = omega (arith, bit-le (cameOver (2 * sizeAt Byte (s .a)) (s .a)), bit-le (cameOver (sizeAt Word (s .b)) (s .b)))
+two-at-most (Transfer w) flip s = omega (arith, bit-le (cameOver (sizeAt w (s .a)) (s .a)) 1, bit-le (cameOver (sizeAt w (s .b)) (s .b)) 1)
+two-at-most (Search w) flip s = omega (arith, bit-le (cameOver (sizeAt w (sourceOf flip s)) (sourceOf flip s)) 1)
+two-at-most Funnel flip s = omega (arith, bit-le (cameOver (2 * sizeAt Byte (s .a)) (s .a)) 1, bit-le (cameOver (sizeAt Word (s .b)) (s .b)) 1)
 
 -- ---- what an answer carries
 

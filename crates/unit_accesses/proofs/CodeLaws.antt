@@ -1,7 +1,7 @@
 -- The accesses made of their calls' answers.
 use mathlib.Core.Path.{_≡_, refl, sym, ap}
 use mathlib.Core.Bool.{Bool, true, false}
-use Prim.Native.Nat.{ℕ, _+_, _≤_}
+use Prim.Native.Nat.{ℕ, _+_}
 use native.Mathlib.Omega.{arith}
 use mir.Val.{boolByte}
 use Rattle.facts.specs.Bits.{bitIf}
@@ -23,10 +23,6 @@ abbrev left : Set → ℕ → ℕ → Spaces → Effect
 left s v k z = doneAs (record { set = s; datum = v; upper = k }) z
 
 -- a flag as a number
-pub flag-le : (b : Bool) → boolByte b ≤ 1
-flag-le true = omega arith
-flag-le false = omega arith
-
 pub flag-bit : (b : Bool) → boolByte b ≡ bitIf b 1
 flag-bit true = refl
 flag-bit false = refl

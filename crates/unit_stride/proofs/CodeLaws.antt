@@ -27,7 +27,7 @@ use Rattle.unit.specs.Unit.{Worked, whole, movedOf, worked}
 use Rattle.unit_stride.specs.declared.Pair.{Pair}
 use Rattle.unit_stride.specs.Units.{follows, moveTurns, movedOn, pass, UnitDone, unitTurns, onwards}
 use Rattle.stepping.specs.Stepping.{Down, Hold}
-use Rattle.unit_stride.specs.Behind.{over, cameOver, sizeAt, changesBehind}
+use Rattle.unit_stride.specs.Behind.{over, cameOver, sizeAt, changesBehind, Tells}
 use Rattle.unit_stride.proofs.Laws.{resting, of-one}
 use Rattle.unit_stride.proofs.Behind.{stepped-set, behind}
 
@@ -59,10 +59,6 @@ module _ (o : Operation) (mode : Mode) (s : Set) (eo : o ≡ operationOf mode) (
 
   pub funnel-behind : (p : ℕ) → o .moves ≡ Funnel → p ≡ sizeAt Byte (s .a) → x ≡ cameOver (2 * p) (s .a) → y ≡ cameOver 2 (s .b) → k ≡ told-so
   funnel-behind p em ep ex ey = of-form Funnel em (λ i. bitIf ((ex ∙ ap (λ (n : ℕ). cameOver (2 * n) (s .a)) ep) i) 1 + bitIf (ey i) 1)
-
--- the registers that the last unit left tell how many of its steps changed bits 23-16
-abbrev pub Tells : Mode → Moved → Type 0
-Tells m x = changesBehind (operationOf m .moves) (isFlipped m) (x .set) ≡ x .upper
 
 pub tells : (w : Work) (z z′ : Spaces) (x : Moved) → SixteenBitsEach (w .set) → whole x z′ ≡ worked w z → Tells (w .mode) x
 unfolding worked movedOf

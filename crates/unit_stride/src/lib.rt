@@ -4,7 +4,7 @@ ghost use mathlib.Core.Bool.{cond};
 ghost use Prim.Native.Nat.{_-_, _≤_};
 ghost use Rattle.space.specs.Space.{spaces};
 ghost use Rattle.word_mode.specs.Mode.{operationOf, isFlipped};
-ghost use Rattle.unit_stride.specs.Behind.{cameOver, sizeAt, changesBehind};
+ghost use Rattle.unit_stride.specs.Behind.{cameOver, sizeAt, changesBehind, Tells};
 ghost use Rattle.unit_stride.specs.Units.{isDedicated, limitOf, onward, pass, follows, movedOnAs, movedOn, carriedAs, onwards};
 use port::Which;
 use space::Width;
@@ -142,7 +142,7 @@ fn changes_behind(mode: Mode, s: Set) -> u16
 
 // A unit, and those of the same channel that follow it, up to a limit.
 fn move_on(board: Board, w: Work, limit: u32, memory: &mut [u8], io: &mut [u8]) -> MovedOn
-    ensures { λ r. ⌜ (movedOnAs r (spaces (now (memory .exit)) (now (io .exit))) ≡ movedOn board (limit - 1) 0 w (spaces (now (memory .entry)) (now (io .entry)))) × (changesBehind (operationOf (w .mode) .moves) (isFlipped (w .mode)) (r .moved .set) ≡ r .moved .upper) ⌝ }
+    ensures { λ r. ⌜ (movedOnAs r (spaces (now (memory .exit)) (now (io .exit))) ≡ movedOn board (limit - 1) 0 w (spaces (now (memory .entry)) (now (io .entry)))) × Tells (w .mode) (r .moved) ⌝ }
 {
     let set = w.set;
     let compared = w.kept;

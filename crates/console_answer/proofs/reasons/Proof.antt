@@ -15,4 +15,4 @@ reasons-spec =
     (λ c κs. search needs)
     (λ c. search needs)
     (λ c κs. search needs)
-    (λ c. rw (c .reason3 .ensures, c .before .before .reason2 .ensures, twice, c .before .before .before .before .reason .ensures, twice)))
+    (λ c. rw (c .if-so3 .ensures, c .before .before .if-so2 .ensures, twice, c .before .before .before .before .if-so .ensures, twice)))

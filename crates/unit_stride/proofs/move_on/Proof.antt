@@ -7,10 +7,11 @@ use borrow.Author.Needs.{needs}
 use Rattle.facts.proofs.Rows.{begun, on-yet, all-done, turn, fewer-left}
 use Rattle.space.specs.Space.{spaces}
 use Rattle.unit_stride.specs.Units.{follows, moveTurns}
+use Rattle.unit_stride.specs.Behind.{Tells}
 use Rattle.word_mode.specs.declared.Mode.{Mode}
 use Rattle.unit.specs.declared.Work.{Work}
 use Rattle.word_address.specs.Address.{SixteenBitsEach}
-use Rattle.unit_stride.proofs.CodeLaws.{Tells, tells, words-left, UnitLoop}
+use Rattle.unit_stride.proofs.CodeLaws.{tells, words-left, UnitLoop}
 use Rattle.unit_stride.proofs.move_on.Statement.{statement}
 use Rattle.unit_stride.proofs.move_on.Tie as tie
 

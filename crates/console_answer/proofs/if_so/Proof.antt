@@ -2,12 +2,12 @@ use borrow.Author.Needs.{needs}
 use mathlib.Core.Path.{sym}
 use Rattle.text_print.proofs.Laws.{room}
 use Rattle.console_answer.specs.Wording.{ifSo}
-use Rattle.console_answer.proofs.reason.Statement.{statement}
-use Rattle.console_answer.proofs.reason.Tie as tie
+use Rattle.console_answer.proofs.if_so.Statement.{statement}
+use Rattle.console_answer.proofs.if_so.Tie as tie
 
-pub reason-spec : {M : Type 1} → statement M
+pub if-so-spec : {M : Type 1} → statement M
 unfolding ifSo
-reason-spec =
+if-so-spec =
     tie.close
     (tie.spec
     (λ c κs. search needs)
