@@ -33,15 +33,19 @@ TakesWords r n = (m : List ℕ) (c : Channel) (k : ℕ) → wordAt m c ≡ r →
 abbrev pub counted : ℕ → Work → Work
 counted n w = record { set = record { a = w .set .a; b = w .set .b; count = n }; mode = w .mode; pattern = w .pattern; mask = w .mask; kept = w .kept }
 
--- a word search with this match control, pattern and mask
-abbrev pub searching : ℕ → ℕ → ℕ → Set → Work
-searching control pattern mask s = record {
+-- an operation with this match control, pattern and mask
+abbrev pub doing : ℕ → ℕ → ℕ → ℕ → Set → Work
+doing operation control pattern mask s = record {
   set = s;
-  mode = record { high = control; low = 0xE };
+  mode = record { high = control; low = operation };
   pattern = pattern;
   mask = mask;
   kept = record { mch = false; mcl = false; met = false };
 }
+
+-- a word search
+abbrev pub searching : ℕ → ℕ → ℕ → Set → Work
+searching = doing 0xE
 
 -- stop on match, pattern 1200h, mask 00FFh
 abbrev pub sought : Set → Work
@@ -54,17 +58,13 @@ five = record { a = record { upper = 0x0040; lower = 0x0200 }; b = record { uppe
 abbrev pub changes-upper : Width → Address → Bool
 changes-upper w a = stepTo a (steppedOn w a) .upper
 
--- how many of the steps change them of a unit with this operation, from 00FFFEh of memory up on both sides
+-- both addresses at 00FFFEh of memory, up
+abbrev pub at-the-end : Set
+at-the-end = record { a = record { upper = 0x0040; lower = 0xFFFE }; b = record { upper = 0x0040; lower = 0xFFFE }; count = 9 }
+
+-- how many of the steps of a unit with this operation change bits 23-16 from there
 abbrev pub changes-by : ℕ → ℕ
-changes-by operation =
-    let end = record { upper = 0x0040; lower = 0xFFFE } in
-    movedOf (record {
-      set = record { a = end; b = end; count = 9 };
-      mode = record { high = 0; low = operation };
-      pattern = 0;
-      mask = 0;
-      kept = record { mch = false; mcl = false; met = false };
-    }) 0 .upper
+changes-by operation = movedOf (doing operation 0 0 0 at-the-end) 0 .upper
 
 -- channel 1 with CIE and IP set, save loaded
 abbrev pub interrupting : Controller → Controller
