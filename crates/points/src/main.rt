@@ -382,7 +382,7 @@ fn say_comparisons() {
     say_each_control(b"byte search", 0x0F, BYTES);
 }
 
-// Channel 1 with both current addresses at one place, about to fetch from there or, where that is 0, an empty table.
+// Channel 1 with both current addresses at one place, its software request set, about to fetch from a chain address.
 fn placed(
     operation: u16,
     upper: u16,
