@@ -16,7 +16,8 @@ use Rattle.unit_laws.specs.Op.{Area}
 use Rattle.unit_laws.specs.Search.{First, meets}
 use Rattle.unit_comparison.specs.Comparison.{comparison}
 use Rattle.word_address.specs.declared.Address.{Address}
-use Rattle.word_address.specs.Address.{placeOf, stepTo, sourceOf}
+use Rattle.word_address.specs.Address.{placeOf, sourceOf}
+use Rattle.unit_accesses.specs.Accesses.{stepAfter}
 use Rattle.word_operation.specs.declared.Moves.the-variants as moves
 use Rattle.word_operation.specs.Operation.{comparing}
 use Rattle.word_mode.specs.declared.Reasons.{Reasons}
@@ -75,7 +76,7 @@ pub record SearchStretch (s : Search) (stop i : ℕ) (x : Moment) : Type 0 where
 
 -- whether the step after d(k) changes bits 23-16 of the source address (document 02, E5)
 abbrev pub changed : Search → ℕ → Bool
-changed s k = stepTo (stepped (s .width) k (s .start)) (stepped (s .width) (suc k) (s .start)) .upper
+changed s k = stepAfter (record { width = s .width; address = stepped (s .width) k (s .start) }) .upper
 
 -- what a step answers that does unit k of the search, with these end reasons
 abbrev pub unit-ended : Search → ℕ → Reasons → Paper

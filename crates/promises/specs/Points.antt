@@ -10,8 +10,9 @@ use Rattle.space.specs.declared.Width.the-variants.{Byte, Word}
 use Rattle.unit_funnel.specs.Funnel.{highFirst, joined}
 use Rattle.word_address.specs.declared.Set.{Set}
 use Rattle.word_address.specs.declared.Address.{Address}
-use Rattle.word_address.specs.Address.{steppedOn, stepTo}
+use Rattle.word_address.specs.Address.{steppedOn}
 use Rattle.word_reload.specs.declared.Stage.the-variants.{Reload}
+use Rattle.unit_accesses.specs.Accesses.{stepAfter}
 use Rattle.unit.specs.declared.Work.{Work}
 use Rattle.unit.specs.Unit.{compared, movedOf}
 use Rattle.port.specs.declared.Which.the-variants.{One}
@@ -56,7 +57,7 @@ five = record { a = record { upper = 0x0040; lower = 0x0200 }; b = record { uppe
 
 -- the step after an access changes bits 23-16
 abbrev pub changes-upper : Width → Address → Bool
-changes-upper w a = stepTo a (steppedOn w a) .upper
+changes-upper w a = stepAfter (record { width = w; address = a }) .upper
 
 -- both addresses at 00FFFEh of memory, up
 abbrev pub at-the-end : Set
