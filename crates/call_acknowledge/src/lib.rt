@@ -1,4 +1,6 @@
 // The interrupt acknowledge.
+#![tactic(auto)]
+
 ghost use Rattle.std.specs.Prelude.{◌≡◌};
 ghost use Rattle.call_acknowledge.specs.Acknowledge.{interrupts, finished_later, acknowledged, is_vectorless, acknowledged_at, acknowledge_of};
 
@@ -6,14 +8,14 @@ use channel::Channel;
 use port::Which;
 use step::Controller;
 
-#[derive(Drop)]
+#[derive(Clone, Copy)]
 pub enum AckAnswer {
     Refused(u8),
     Word(Which, u16),
     NoWord(Which),
 }
 
-#[derive(Drop)]
+#[derive(Clone, Copy)]
 pub struct Acknowledged {
     pub state: Controller,
     pub answer: AckAnswer,

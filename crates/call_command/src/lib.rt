@@ -1,4 +1,6 @@
 // The commands of Figure 18, and what a refused register write leaves.
+#![tactic(auto)]
+
 ghost use Rattle.std.specs.Prelude.{◌≡◌};
 ghost use Rattle.channel.specs.Set.{◌⟨mode≔◌⟩};
 ghost use Rattle.step.specs.Controller.{at, with};
@@ -10,13 +12,13 @@ use step_bus::{Bus, Chain};
 use word_command::Command;
 use word_mode::Mode;
 
-#[derive(Drop)]
+#[derive(Clone, Copy)]
 pub enum Writing {
     Refused(u8),
     Taken,
 }
 
-#[derive(Drop)]
+#[derive(Clone, Copy)]
 pub struct Written {
     pub state: Controller,
     pub answer: Writing,

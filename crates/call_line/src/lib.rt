@@ -1,4 +1,6 @@
 // The request lines.
+#![tactic(auto)]
+
 ghost use Rattle.std.specs.Prelude.{◌≡◌};
 ghost use Rattle.call_line.specs.Lines.{lined, lined_by, lined_at};
 
@@ -6,13 +8,13 @@ use channel::Channel;
 use port::Which;
 use step::Controller;
 
-#[derive(Drop)]
+#[derive(Clone, Copy)]
 pub enum LineAnswer {
     Refused(u8),
     Taken,
 }
 
-#[derive(Drop)]
+#[derive(Clone, Copy)]
 pub struct Lined {
     pub state: Controller,
     pub answer: LineAnswer,

@@ -1,4 +1,6 @@
 // The pointer: reads and writes of it.
+#![tactic(auto)]
+
 ghost use Rattle.std.specs.Prelude.{◌≡◌};
 ghost use Rattle.call_pointer.specs.Pointer.{pointed};
 

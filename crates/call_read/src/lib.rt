@@ -1,4 +1,6 @@
 // What is read at the pointer.
+#![tactic(auto)]
+
 ghost use Rattle.std.specs.Prelude.{◌≡◌};
 ghost use Rattle.call_read.specs.Reading.{keeps_bus, waits_for_bus, register_read, read_of};
 
@@ -8,7 +10,7 @@ use port_read::ReadPort;
 use step::Controller;
 use step_bus::Bus;
 
-#[derive(Drop)]
+#[derive(Clone, Copy)]
 pub enum Reading {
     Refused(u8),
     Value(u16),

@@ -1,4 +1,6 @@
 // Reset, and a fresh controller.
+#![tactic(auto)]
+
 ghost use Rattle.std.specs.Prelude.{◌≡◌};
 ghost use Rattle.call_reset.specs.Reset.{reset_of, no_register, no_set, no_channel, fresh_of};
 

@@ -1,4 +1,6 @@
 // A run of steps.
+#![tactic(auto)]
+
 ghost use Rattle.std.specs.Prelude.{◌≡◌, false};
 ghost use Rattle.space.specs.Space.{spaces};
 ghost use Rattle.step.specs.Step.{ran_as};

@@ -1,4 +1,6 @@
 // What is written at the pointer.
+#![tactic(auto)]
+
 ghost use Rattle.std.specs.Prelude.{◌≡◌};
 ghost use Rattle.port_write.specs.declared.WritePort.TheVariants.{MasterMode, Of};
 ghost use Rattle.call_write.specs.Writing.{chain_written, register_written, write_by, write_of};

@@ -1,4 +1,6 @@
 // A chain's word: what it loads, and what the chain fetches after it.
+#![tactic(auto)]
+
 ghost use Rattle.std.specs.Prelude.{◌≡◌};
 ghost use Rattle.word_reload.specs.declared.Entry.TheVariants.{ChainAddress};
 ghost use Rattle.chain.specs.Chaining.{is_chain_address, advanced, changes_upper, next_of, load_reload, after_register, load_entry, load_of, settled_by, fetched_of, dropped_of};
@@ -7,7 +9,7 @@ use channel::Channel;
 use word_reload::{Entry, Next, Progress, Stage};
 
 // A channel after a word of its chain, what comes next, and whether bits 23-16 of the chain address changed.
-#[derive(Drop)]
+#[derive(Clone, Copy)]
 pub struct Loaded {
     pub channel: Channel,
     pub next: Next,
@@ -15,7 +17,7 @@ pub struct Loaded {
 }
 
 // A channel whose chain address has stepped, and whether bits 23-16 changed.
-#[derive(Drop)]
+#[derive(Clone, Copy)]
 struct Advanced {
     channel: Channel,
     upper: bool,

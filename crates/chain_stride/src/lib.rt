@@ -1,4 +1,6 @@
 // Words of a chain that are fetched one after another.
+#![tactic(auto)]
+
 ghost use Rattle.std.specs.Prelude.{◌≡◌, ◌-◌};
 ghost use Rattle.chain_stride.specs.Fetches.{fetched_as, fetches_of};
 
@@ -7,7 +9,7 @@ use space::{MemoryAddress, Width};
 use word_reload::{Next, Stage};
 
 // The channel after the last word, what comes next, whether the last changed bits 23-16, and how many words there were.
-#[derive(Drop)]
+#[derive(Clone, Copy)]
 pub struct Fetched {
     pub channel: Channel,
     pub next: Next,

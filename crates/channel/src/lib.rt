@@ -1,4 +1,6 @@
 // A channel: its registers, its request and its end.
+#![tactic(auto)]
+
 ghost use Rattle.std.specs.Prelude.{◌≡◌};
 ghost use Rattle.word_mode.specs.Mode.{is_requested};
 ghost use Rattle.channel.specs.Candidate.{is_candidate};
@@ -13,7 +15,7 @@ use word_mode::{Mode, Reasons, RequestMode};
 use word_status::Flags;
 
 // Its flags stand beside the status bits that no fetch changes: so a chain's loop moves them in one piece.
-#[derive(Drop)]
+#[derive(Clone, Copy)]
 pub struct Interrupt {
     pub vector: u8,
     pub save: u16,
@@ -23,7 +25,7 @@ pub struct Interrupt {
 }
 
 // The status bits that are kept; the word's other bits are read from elsewhere.
-#[derive(Drop)]
+#[derive(Clone, Copy)]
 pub struct Status {
     pub mch: bool,
     pub mcl: bool,
@@ -32,7 +34,7 @@ pub struct Status {
     pub nac: bool,
 }
 
-#[derive(Drop)]
+#[derive(Clone, Copy)]
 pub struct Channel {
     pub current: Set,
     pub base: Set,
@@ -47,7 +49,7 @@ pub struct Channel {
 }
 
 // A channel after an end, and whether the end puts a chain under way.
-#[derive(Drop)]
+#[derive(Clone, Copy)]
 pub struct Ended {
     pub channel: Channel,
     pub chains: bool,

@@ -1,4 +1,6 @@
 // What a command of Figure 18 does to its channel: CIE and IP, Start Chain.
+#![tactic(auto)]
+
 ghost use Rattle.std.specs.Prelude.{◌≡◌};
 ghost use Rattle.channel_command.specs.Effects.{cie_by, ip_by, chain_started, cannot_chain};
 

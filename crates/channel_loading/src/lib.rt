@@ -1,4 +1,6 @@
 // One word to a register of a channel.
+#![tactic(auto)]
+
 ghost use Rattle.std.specs.Prelude.{◌≡◌, false};
 ghost use Rattle.channel_loading.specs.Loading.{address_with, with_a, with_b, compare_with, mode_with, chain_with, loaded};
 ghost use Rattle.word_reload.specs.declared.Entry.TheVariants.{CurrentA, CurrentB, CurrentCount, BaseA, BaseB, BaseCount, Vector};

@@ -1,11 +1,13 @@
 // A channel's request: its line, its mask and its software bit.
+#![tactic(auto)]
+
 ghost use Rattle.std.specs.Prelude.{◌≡◌};
 ghost use Rattle.channel_request.specs.Request.{arrived, requests};
 
 use word_mode::{Mode, RequestMode};
 
 // The request line: its level, and an inactive-to-active change that is stored and unspent.
-#[derive(Drop)]
+#[derive(Clone, Copy)]
 pub struct Line {
     pub active: bool,
     pub change: bool,

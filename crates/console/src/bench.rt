@@ -12,7 +12,7 @@ use console_line::{Advance, Input, LentSpace, RegisterCall, Request};
 use step::Controller;
 
 // The controller, and how many bytes of each space are lent.
-#[derive(Drop)]
+#[derive(Clone, Copy)]
 pub struct Bench {
     pub controller: Controller,
     pub memory: u32,

@@ -1,4 +1,6 @@
 // The console: reads lines from the file that its first argument names, or from standard input, makes the host calls that they name, and prints what each answers.
+#![tactic(auto)]
+
 mod bench;
 mod print;
 
@@ -13,7 +15,7 @@ type Memory = [u8; 1048576];
 type Io = [u8; 65536];
 
 // The bench, how many lines were read, and how many bytes of the next, of which no more than 256 are counted.
-#[derive(Drop)]
+#[derive(Clone, Copy)]
 struct Session {
     bench: Bench,
     lines: u64,

@@ -1,4 +1,6 @@
 // The words of the console: the line that each answer prints.
+#![tactic(auto)]
+
 ghost use Rattle.std.specs.Prelude.{◌≡◌, ◌++◌};
 ghost use Rattle.text_scan.specs.Words.{bytes};
 ghost use Rattle.text_print.specs.Text.{written, appended, line, channel_of};

@@ -1,4 +1,6 @@
 // What a line of the console asks for.
+#![tactic(auto)]
+
 ghost use Rattle.std.specs.Prelude.{◌≡◌, ◌%◌};
 ghost use Rattle.console_line.specs.Names.{named, names, other_names, bench_names};
 ghost use Rattle.console_line.specs.Reading.{last_of, pointer_of, write_of, set_of, get_of, level_of, line_of, step_of, run_of, why_of, limit_of, lend_of, space_of, peek_of, filled, bytes_from, asked, poke_of, ask_of, taken, read_of};
@@ -8,7 +10,7 @@ use text_scan::Number;
 // ---- what the first word of a line names
 
 // The first word of a line.
-#[derive(Drop)]
+#[derive(Clone, Copy)]
 pub enum Name {
     Reset,
     Pointer,
@@ -96,14 +98,14 @@ const IO: u32 = 65536;
 
 const PEEK: u32 = 65536;
 
-#[derive(Drop)]
+#[derive(Clone, Copy)]
 pub enum LentSpace {
     Memory,
     Io,
 }
 
 // The host's calls that reach the controller alone, with what they are given.
-#[derive(Drop)]
+#[derive(Clone, Copy)]
 pub enum RegisterCall {
     Reset,
     WritePointer(u16),
@@ -117,14 +119,14 @@ pub enum RegisterCall {
 }
 
 // The host's calls that reach both spaces.
-#[derive(Drop)]
+#[derive(Clone, Copy)]
 pub enum Advance {
     Step(bool),
     Run(u32),
 }
 
 // What is asked over the bytes that are lent. The bytes of a poke stand beside it.
-#[derive(Drop)]
+#[derive(Clone, Copy)]
 pub enum Request {
     Nothing,
     Unreadable,
@@ -138,7 +140,7 @@ pub enum Request {
     Help,
 }
 
-#[derive(Drop)]
+#[derive(Clone, Copy)]
 pub enum Input {
     Lend(LentSpace, u32),
     Ask(Request),
@@ -303,7 +305,7 @@ fn lend(space: LentSpace, s: &[u8]) -> Input
     Input::Lend(space, n)
 }
 
-#[derive(Drop)]
+#[derive(Clone, Copy)]
 enum Named {
     In(LentSpace),
     Nowhere,

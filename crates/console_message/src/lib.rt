@@ -1,4 +1,6 @@
 // The words of the console: the lines that hold no answer of the controller.
+#![tactic(auto)]
+
 ghost use Rattle.std.specs.Prelude.{◌≡◌, ◌++◌};
 ghost use Rattle.text_scan.specs.Words.{bytes};
 ghost use Rattle.text_print.specs.Text.{written, appended, line, hex2_of};

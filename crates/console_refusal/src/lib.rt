@@ -1,4 +1,6 @@
 // The words of the console: a refusal by its number.
+#![tactic(auto)]
+
 ghost use Rattle.std.specs.Prelude.{◌≡◌};
 ghost use Rattle.text_print.specs.Text.{written, appended};
 ghost use Rattle.console_refusal.specs.Refusals.{refusal_words, refusal_of};

@@ -1,4 +1,6 @@
 // The lines of the state.
+#![tactic(auto)]
+
 ghost use Rattle.std.specs.Prelude.{◌≡◌, cond, ◌++◌};
 ghost use Rattle.word_reload.specs.Length.{words_left};
 ghost use Rattle.text_print.specs.Text.{written, appended, line, channel_of};

@@ -7,6 +7,7 @@ use Rattle.facts.specs.First.{first_or, Given, Exactly}
 
 module _ {A : Type 0} (d : A) where
   given_first : (t : List (Bool × A)) (n : A) → Given t n → first_or d t ≡ n
+  given_first [] n h = elim h [ ]
   given_first (e ∷ es) n (inl h) = ap (λ (b : Bool). cond b e.1 (first_or d es)) h.0 ∙ sym h.1
   given_first (e ∷ es) n (inr h) = ap (λ (b : Bool). cond b e.1 (first_or d es)) h.0 ∙ given_first es n h.1
 

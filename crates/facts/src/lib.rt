@@ -1,4 +1,6 @@
 // What every crate shares: definitions and laws of numbers, masks and tables, and a flag's worth in a word.
+#![tactic(auto)]
+
 ghost use Rattle.std.specs.Prelude.{◌≡◌, ◌≤◌};
 ghost use Rattle.facts.specs.Bits.{bit_if};
 

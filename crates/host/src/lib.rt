@@ -1,4 +1,6 @@
 // The host's calls for programs in C and Rust, over the state as 72 words that the caller lends.
+#![tactic(auto)]
+
 ghost use Rattle.std.specs.Prelude.{◌≡◌};
 ghost use Rattle.space.specs.Space.{spaces};
 ghost use Rattle.host_state.specs.Load.{state_of};

@@ -1,4 +1,6 @@
 // Each answer as one number, for a host in another language.
+#![tactic(auto)]
+
 ghost use Rattle.std.specs.Prelude.{◌≡◌};
 ghost use Rattle.step.specs.Answers.{channel_number};
 ghost use Rattle.standstill.specs.Answers.{cause_number};

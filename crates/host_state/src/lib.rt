@@ -1,4 +1,6 @@
 // The controller's state as 72 words that a host keeps, one field a word, and the state of such words, whatever they hold.
+#![tactic(auto)]
+
 ghost use Rattle.std.specs.Prelude.{◌≤◌, length, ◌≡◌};
 ghost use Rattle.step.specs.Answers.{channel_number};
 ghost use Rattle.host_state.specs.Store.{chain_word, stage_word, progress_of, bus_word, served_word, channel_words, put_from, words_of};

@@ -1,6 +1,8 @@
 // The points of document 01 that are run, and the data sheet's initialization program and reload table (Figures 23 and 24), each
 // compared with what it should be; then what comparisons tell (document 02, E2), as the status has it, and how often the upper address byte
 // changes (E5).
+#![tactic(auto)]
+
 use call_command::{Writing, Written};
 use call_read::Reading;
 use channel::Channel;

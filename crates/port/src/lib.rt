@@ -1,16 +1,18 @@
 // The channels, their registers, and the pointer that names a port.
+#![tactic(auto)]
+
 ghost use Rattle.std.specs.Prelude.{◌≡◌};
 ghost use Rattle.port.specs.Ports.{kept_pointer, is_other, other};
 
 // Which channel.
-#[derive(Drop)]
+#[derive(Clone, Copy)]
 pub enum Which {
     One,
     Two,
 }
 
 // A register of a channel that is read and written.
-#[derive(Drop)]
+#[derive(Clone, Copy)]
 pub enum Register {
     CurrentAUpper,
     CurrentALower,

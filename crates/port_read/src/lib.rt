@@ -1,11 +1,13 @@
 // Which register stands at the pointer, for reads.
+#![tactic(auto)]
+
 ghost use Rattle.std.specs.Prelude.{◌≡◌};
 ghost use Rattle.port_read.specs.Readable.{read_port};
 
 use port::{Register, Which};
 
 // What a read at the pointer reads.
-#[derive(Drop)]
+#[derive(Clone, Copy)]
 pub enum ReadPort {
     MasterMode,
     Status(Which),
@@ -15,6 +17,7 @@ pub enum ReadPort {
     Nowhere,
 }
 
+#[tactic(auto, using(facts::proofs::Look::look_none), unfolding(facts::specs::Look::look, crate::specs::Readable::read_port))]
 pub fn read_port(pointer: u16) -> ReadPort
     ensures { result ≡ read_port pointer }
 {

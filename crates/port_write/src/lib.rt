@@ -1,11 +1,13 @@
 // Which register stands at the pointer, for writes.
+#![tactic(auto)]
+
 ghost use Rattle.std.specs.Prelude.{◌≡◌};
 ghost use Rattle.port_write.specs.Writable.{write_port};
 
 use port::{Register, Which};
 
 // What a write at the pointer writes.
-#[derive(Drop)]
+#[derive(Clone, Copy)]
 pub enum WritePort {
     MasterMode,
     Command(Which),
@@ -13,6 +15,7 @@ pub enum WritePort {
     Nowhere,
 }
 
+#[tactic(auto, using(facts::proofs::Look::look_none), unfolding(facts::specs::Look::look, crate::specs::Writable::write_port))]
 pub fn write_port(pointer: u16) -> WritePort
     ensures { result ≡ write_port pointer }
 {

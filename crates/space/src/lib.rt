@@ -1,21 +1,23 @@
 // The two lent byte spaces, and their addresses, kept apart by type.
+#![tactic(auto)]
+
 ghost use Rattle.std.specs.Prelude.{◌≡◌, get_or, set};
 ghost use Rattle.space.specs.Space.{spaces, place_at, value_in, with_value, read_at, written};
 
 // A memory address never stands for an I/O address.
-#[derive(Drop)]
+#[derive(Clone, Copy)]
 pub struct MemoryAddress(pub u32);
 
-#[derive(Drop)]
+#[derive(Clone, Copy)]
 pub struct IoAddress(pub u32);
 
-#[derive(Drop)]
+#[derive(Clone, Copy)]
 pub enum Place {
     Memory(MemoryAddress),
     Io(IoAddress),
 }
 
-#[derive(Drop)]
+#[derive(Clone, Copy)]
 pub enum Width {
     Byte,
     Word,

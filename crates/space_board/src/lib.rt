@@ -1,10 +1,12 @@
 // The board that the controller stands on: what its choice looks at besides the registers.
+#![tactic(auto)]
+
 ghost use Rattle.std.specs.Prelude.{◌≡◌};
 ghost use Rattle.space.specs.Space.{spaces};
 ghost use Rattle.space_board.specs.Board.{board_of};
 
 // The lengths of the lent spaces.
-#[derive(Drop)]
+#[derive(Clone, Copy)]
 pub struct Board {
     pub memory: usize,
     pub io: usize,

@@ -1,4 +1,6 @@
 // Why a channel stands still: the first reason of document 02's list that is true of the state.
+#![tactic(auto)]
+
 ghost use Rattle.std.specs.Prelude.{◌≡◌};
 ghost use Rattle.facts.specs.First.{first_or};
 ghost use Rattle.step.specs.Controller.{at};
@@ -15,7 +17,7 @@ use step_bus::{Bus, Chain};
 use step_rules::Turn;
 use word_reload::Stage;
 
-#[derive(Drop)]
+#[derive(Clone, Copy)]
 pub enum Cause {
     NothingWrong,
     Disabled,
@@ -33,7 +35,7 @@ pub enum Cause {
     TurnOfTheOther,
 }
 
-#[derive(Drop)]
+#[derive(Clone, Copy)]
 pub enum WhyAnswer {
     Refused(u8),
     Because(Cause),

@@ -1,4 +1,6 @@
 // The controller: its state, which step comes next, and the step.
+#![tactic(auto)]
+
 ghost use Rattle.std.specs.Prelude.{◌≡◌, true};
 ghost use Rattle.facts.specs.First.{first_of};
 ghost use Rattle.space.specs.Space.{spaces};
@@ -25,7 +27,7 @@ use unit_comparison::Compared;
 use word_mode::{Reasons, RequestMode};
 use word_reload::{Next, Stage};
 
-#[derive(Drop)]
+#[derive(Clone, Copy)]
 pub struct Controller {
     pub pointer: u16,
     pub master: u16,
@@ -35,19 +37,19 @@ pub struct Controller {
 }
 
 // What the answer of a unit tells: its end reasons, and how many of its steps changed bits 23-16.
-#[derive(Drop)]
+#[derive(Clone, Copy)]
 pub struct UnitAnswer {
     pub why: Reasons,
     pub upper: u16,
 }
 
 // What the answer of a fetch tells: whether its step changed bits 23-16 of the chain address.
-#[derive(Drop)]
+#[derive(Clone, Copy)]
 pub struct FetchAnswer {
     pub upper: bool,
 }
 
-#[derive(Drop)]
+#[derive(Clone, Copy)]
 pub enum Answer {
     Refused(u8),
     Disabled,
@@ -60,14 +62,14 @@ pub enum Answer {
     Ended(Which),
 }
 
-#[derive(Drop)]
+#[derive(Clone, Copy)]
 pub struct Stepped {
     pub state: Controller,
     pub answer: Answer,
 }
 
 // What the last of some steps leaves and answers, and how many they were.
-#[derive(Drop)]
+#[derive(Clone, Copy)]
 pub struct Ran {
     pub state: Controller,
     pub answer: Answer,

@@ -1,4 +1,6 @@
 // What a step leaves of what belongs to no channel.
+#![tactic(auto)]
+
 ghost use Rattle.std.specs.Prelude.{◌≡◌};
 ghost use Rattle.step_bus.specs.After.{chain_after, unended_control, ended_control, held_control, control_fetched, back_control};
 

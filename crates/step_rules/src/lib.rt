@@ -1,8 +1,10 @@
 // Which step comes next.
+#![tactic(auto)]
+
 use port::Which;
 use word_reload::Stage;
 
-#[derive(Drop)]
+#[derive(Clone, Copy)]
 pub enum Choice {
     Disabled,
     Refused(u8),
@@ -15,7 +17,7 @@ pub enum Choice {
 }
 
 // Whose turn it is among the candidates.
-#[derive(Drop)]
+#[derive(Clone, Copy)]
 pub enum Turn {
     Nobodys,
     Whose(Which),

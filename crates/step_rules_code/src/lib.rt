@@ -1,4 +1,6 @@
 // What the rules ask of the registers, and what they intend for the channel that keeps the bus and for a candidate.
+#![tactic(auto)]
+
 ghost use Rattle.std.specs.Prelude.{◌≡◌, true};
 ghost use Rattle.facts.specs.First.{first_of};
 ghost use Rattle.step_rules.specs.Rules.{is_enabled, is_interleaved, turn_by, beginning, fetch_refusals, refused_or};

@@ -1,6 +1,8 @@
 // Several steps at once, proved to be the same steps one by one. A single step brings the whole state into variables and out again; here
 // units that follow each other, and the words of a chain, share one loop on the registers that they change. Some functions stand here, and are
 // called once, only so that the compiler puts them inside that loop.
+#![tactic(auto)]
+
 ghost use Rattle.std.specs.Prelude.{◌≡◌, cond};
 ghost use Rattle.space.specs.Space.{spaces};
 ghost use Rattle.port.specs.Ports.{other};

@@ -1,4 +1,6 @@
 // How an address steps.
+#![tactic(auto)]
+
 ghost use Rattle.std.specs.Prelude.{◌≡◌, ◌≤◌, ◌<◌};
 ghost use Rattle.stepping.specs.Stepping.{step_size, direction, moved, rise};
 

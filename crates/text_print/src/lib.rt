@@ -1,4 +1,6 @@
 // A line in the making, and the numbers in it.
+#![tactic(auto)]
+
 ghost use Rattle.std.specs.Prelude.{◌≡◌, [], ◌∷◌, ◌<◌};
 ghost use Rattle.text_print.specs.Text.{written, appended, glyph_of, hex2_of, hex4_of, hex6_of, decimal_of, bit_of, channel_of, line};
 

@@ -1,22 +1,26 @@
 // The words of a line, and the numbers among them. A part is written `s[0..n]`, of which the check knows the length.
+#![tactic(auto)]
+
 ghost use Rattle.std.specs.Prelude.{◌≡◌, ◌≤◌, length, drop};
 ghost use Rattle.text_scan.specs.Words.{is_blank, is_of, leading_of, code_of, first_of, rest_of, same_of};
 ghost use Rattle.text_scan.specs.Numbers.{worth_of, is_digit, with_digit, number_of, hex_of, up_to_255};
 
 // What is counted at the start of a text.
-#[derive(Drop)]
+#[derive(Clone, Copy)]
 pub enum Kind {
     Blank,
     Word,
     Code,
 }
 
+#[tactic(auto, unfolding(crate::specs::Words::is_blank))]
 fn is_blank(b: u8) -> bool
     ensures { result ≡ is_blank b }
 {
     (b == b' ') | (b == b'\t') | (b == b'\r')
 }
 
+#[tactic(auto, unfolding(crate::specs::Words::is_of))]
 fn is_of(kind: Kind, b: u8) -> bool
     ensures { result ≡ is_of kind b }
 {
@@ -28,6 +32,7 @@ fn is_of(kind: Kind, b: u8) -> bool
 }
 
 // How many bytes of a kind a text starts with.
+#[tactic(auto, using(crate::proofs::Laws::leading_on, crate::proofs::Laws::leading_ends, crate::proofs::Laws::leading_none))]
 fn leading(kind: Kind, s: &[u8]) -> usize
     ensures { (result ≤ length s.now) × (result ≡ leading_of kind s.now) }
 {
@@ -42,6 +47,7 @@ fn leading(kind: Kind, s: &[u8]) -> usize
 }
 
 // A line without its comment, from its first word on.
+#[tactic(auto, using(facts::proofs::Lists::all_left), unfolding(crate::specs::Words::code_of, crate::specs::Words::past_of, crate::specs::Words::start_of))]
 pub fn code(line: &[u8]) -> &[u8]
     ensures { result.now ≡ code_of line.now }
 {
@@ -52,6 +58,7 @@ pub fn code(line: &[u8]) -> &[u8]
 }
 
 // The word that a text starts with.
+#[tactic(auto, unfolding(crate::specs::Words::first_of, crate::specs::Words::start_of))]
 pub fn first(s: &[u8]) -> &[u8]
     ensures { result.now ≡ first_of s.now }
 {
@@ -60,6 +67,7 @@ pub fn first(s: &[u8]) -> &[u8]
 }
 
 // How many bytes stand before the second word.
+#[tactic(auto, using(facts::proofs::Lists::all_left), unfolding(crate::specs::Words::past_of, crate::specs::Words::rest_of))]
 pub fn past_first(s: &[u8]) -> usize
     ensures { (result ≤ length s.now) × (drop result s.now ≡ rest_of s.now) }
 {
@@ -68,6 +76,7 @@ pub fn past_first(s: &[u8]) -> usize
 }
 
 // What follows the first word, from the next word on.
+#[tactic(auto, using(facts::proofs::Lists::all_left))]
 pub fn rest(s: &[u8]) -> &[u8]
     ensures { result.now ≡ rest_of s.now }
 {
@@ -75,6 +84,7 @@ pub fn rest(s: &[u8]) -> &[u8]
     &s[n..]
 }
 
+#[tactic(auto, using(crate::proofs::Laws::same_on, crate::proofs::Laws::same_ends, crate::proofs::Laws::same_none, crate::proofs::Laws::same_length))]
 pub fn same(a: &[u8], b: &[u8]) -> bool
     ensures { result ≡ same_of a.now b.now }
 {
@@ -91,19 +101,20 @@ pub fn same(a: &[u8], b: &[u8]) -> bool
     true
 }
 
-#[derive(Drop)]
+#[derive(Clone, Copy)]
 pub enum Number {
     Of(u32),
     Unreadable,
 }
 
-#[derive(Drop)]
+#[derive(Clone, Copy)]
 pub enum Base {
     Ten,
     Sixteen,
 }
 
 // A digit's worth in either base; 255 where the byte is none.
+#[tactic(auto, unfolding(crate::specs::Numbers::worth_of))]
 fn worth(b: u8) -> u8
     ensures { result ≡ worth_of b }
 {
@@ -128,6 +139,7 @@ fn worth(b: u8) -> u8
     255
 }
 
+#[tactic(auto, unfolding(crate::specs::Numbers::is_digit))]
 fn is_digit(base: Base, d: u8) -> bool
     ensures { result ≡ is_digit base d }
 {
@@ -138,6 +150,7 @@ fn is_digit(base: Base, d: u8) -> bool
 }
 
 // A number beyond 100,000,000 is above every limit and takes no more digits.
+#[tactic(auto, unfolding(crate::specs::Numbers::shifted, crate::specs::Numbers::with_digit))]
 fn with_digit(value: u32, base: Base, d: u8) -> u32
     ensures { result ≡ with_digit value base d }
 {
@@ -150,6 +163,7 @@ fn with_digit(value: u32, base: Base, d: u8) -> u32
     }
 }
 
+#[tactic(auto, using(crate::proofs::Laws::digit_on, crate::proofs::Laws::digit_ends, crate::proofs::Laws::digit_none, crate::proofs::Laws::number_none, crate::proofs::Laws::number_some))]
 fn digits_of(base: Base, s: &[u8]) -> Number
     ensures { result ≡ number_of base s.now }
 {
@@ -170,6 +184,7 @@ fn digits_of(base: Base, s: &[u8]) -> Number
 }
 
 // A hexadecimal number of at most so many digits.
+#[tactic(auto, unfolding(crate::specs::Numbers::hex_of))]
 fn hexadecimal(s: &[u8], digits: usize) -> Number
     ensures { result ≡ hex_of digits s.now }
 {
@@ -206,6 +221,7 @@ pub fn decimal(s: &[u8]) -> Number
 }
 
 // C of the console's language: a decimal up to 255.
+#[tactic(auto, unfolding(crate::specs::Numbers::up_to_255))]
 pub fn channel(s: &[u8]) -> Number
     ensures { result ≡ up_to_255 (number_of Base.Ten s.now) }
 {

@@ -1,4 +1,6 @@
 // One unit: what its accesses and its comparison make of the registers that it works on.
+#![tactic(auto)]
+
 ghost use Rattle.std.specs.Prelude.{◌≡◌, cond};
 ghost use Rattle.space.specs.Space.{spaces};
 ghost use Rattle.unit_comparison.specs.Comparison.{comparison};
@@ -12,7 +14,7 @@ use word_mode::Mode;
 use word_operation::Moves;
 
 // What a unit works on.
-#[derive(Drop)]
+#[derive(Clone, Copy)]
 pub struct Work {
     pub set: Set,
     pub mode: Mode,
@@ -22,7 +24,7 @@ pub struct Work {
 }
 
 // What a unit makes of it, and how many of its steps changed bits 23-16.
-#[derive(Drop)]
+#[derive(Clone, Copy)]
 pub struct Moved {
     pub set: Set,
     pub compared: Compared,

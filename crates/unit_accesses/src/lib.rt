@@ -1,4 +1,6 @@
 // The accesses of a unit: what it reads and writes, and the registers that step after each.
+#![tactic(auto)]
+
 ghost use Rattle.std.specs.Prelude.{◌≡◌, true, false, ◌+◌};
 ghost use Rattle.facts.specs.Bits.{bit_if};
 ghost use Rattle.space.specs.Space.{spaces, read_at, written};
@@ -12,7 +14,7 @@ use word_address::{Address, AddressStep, Set};
 use word_operation::Moves;
 
 // What a read leaves: its datum and the register's step after it.
-#[derive(Drop)]
+#[derive(Clone, Copy)]
 struct Got {
     datum: u16,
     step: AddressStep,
@@ -50,7 +52,7 @@ fn write_on(a: Address, w: Width, datum: u16, memory: &mut [u8], io: &mut [u8]) 
 }
 
 // What a unit's accesses leave: the registers stepped and counted, the datum, and how many of the steps changed bits 23-16.
-#[derive(Drop)]
+#[derive(Clone, Copy)]
 pub struct Accessed {
     pub set: Set,
     pub datum: u16,

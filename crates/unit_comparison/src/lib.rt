@@ -1,11 +1,13 @@
 // What a unit does with its datum: it is compared with the pattern, each half with its own.
+#![tactic(auto)]
+
 ghost use Rattle.std.specs.Prelude.{◌≡◌};
 ghost use Rattle.unit_comparison.specs.Comparison.{both_halves, differing, is_hit, meets, told, told_of, comparison};
 
 use space::Width;
 
 // What a comparison tells: both halves' flags, and whether the operation's condition is met.
-#[derive(Drop)]
+#[derive(Clone, Copy)]
 pub struct Compared {
     pub mch: bool,
     pub mcl: bool,

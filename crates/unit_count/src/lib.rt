@@ -1,4 +1,6 @@
 // What a unit does with its count.
+#![tactic(auto)]
+
 ghost use Rattle.std.specs.Prelude.{◌≡◌};
 ghost use Rattle.unit_count.specs.Count.{fewer, terminal};
 

@@ -1,4 +1,6 @@
 // A datum on its way between bytes and a word.
+#![tactic(auto)]
+
 ghost use Rattle.std.specs.Prelude.{◌≡◌};
 ghost use Rattle.unit_funnel.specs.Funnel.{joined, first_half, second_half};
 

@@ -1,4 +1,6 @@
 // Units that follow each other with nothing between them, of one channel or of two that take turns.
+#![tactic(auto)]
+
 ghost use Rattle.std.specs.Prelude.{◌≡◌, cond, ◌-◌, ◌≤◌};
 ghost use Rattle.space.specs.Space.{spaces};
 ghost use Rattle.word_mode.specs.Mode.{operation_of, is_flipped};
@@ -14,7 +16,7 @@ use word_mode::{Mode, RequestMode};
 use word_operation::Moves;
 
 // Before a unit: whose it is, what it works on, and the registers of the other channel, which rests.
-#[derive(Drop)]
+#[derive(Clone, Copy)]
 pub struct Pair {
     pub which: Which,
     pub work: Work,
@@ -22,14 +24,14 @@ pub struct Pair {
 }
 
 // What the last unit of one channel made of its registers, and how many units there were.
-#[derive(Drop)]
+#[derive(Clone, Copy)]
 struct MovedOn {
     moved: Moved,
     units: u32,
 }
 
 // Whose the last unit was, what it made of the registers, those of the channel that rested, and how many units there were.
-#[derive(Drop)]
+#[derive(Clone, Copy)]
 pub struct Carried {
     pub which: Which,
     pub moved: Moved,

@@ -1,4 +1,6 @@
 // An address register, the 24-bit address that it holds and how it steps; the registers of an operation.
+#![tactic(auto)]
+
 ghost use Rattle.std.specs.Prelude.{◌≡◌};
 ghost use Rattle.word_address.specs.Address.{number, with_number, stepped_on, fetched_on, step_to, is_odd, source_of, destination_of, order_of};
 
@@ -8,14 +10,14 @@ use space::Width;
 const UP: u16 = 0;
 
 // An address register, as the two words that are read.
-#[derive(Drop)]
+#[derive(Clone, Copy)]
 pub struct Address {
     pub upper: u16,
     pub lower: u16,
 }
 
 // What a step hands back: the address that it leads to, and whether bits 23-16 changed.
-#[derive(Drop)]
+#[derive(Clone, Copy)]
 pub struct AddressStep {
     pub next: Address,
     pub upper: bool,
@@ -73,7 +75,7 @@ impl Address {
 }
 
 // The registers that an operation works on, current or base.
-#[derive(Drop)]
+#[derive(Clone, Copy)]
 pub struct Set {
     pub a: Address,
     pub b: Address,

@@ -1,4 +1,6 @@
 // A command byte, decoded from a listing: one entry of the table by the byte, one arm of the match by the entry.
+#![tactic(auto)]
+
 ghost use Rattle.std.specs.Prelude.{◌≡◌};
 ghost use Rattle.word_command.specs.Command.{command_of};
 ghost use Rattle.word_command.specs.Figure18.{command_at};
@@ -8,7 +10,7 @@ mod figure_18;
 use figure_18::FIGURE_18;
 use port::Which;
 
-#[derive(Drop)]
+#[derive(Clone, Copy)]
 pub enum Command {
     Reset,
     Interrupts {
@@ -29,6 +31,7 @@ const SET: bool = true;
 const CLEAR: bool = false;
 
 // The table's entry for the lower byte of a word; its upper byte is disregarded.
+#[tactic(auto, using(crate::proofs::Figure18::at_each_byte), unfolding(crate::specs::Figure18::command_at, crate::specs::Command::command_of, facts::specs::Look::look))]
 fn entry(word: u16) -> u8
     ensures { command_at result ≡ command_of word }
 {
@@ -49,6 +52,7 @@ fn interrupts(channel: Which, set: bool, e: bool, p: bool) -> Command
 }
 
 // The codes stand in Figure 18's order.
+#[tactic(auto, using(facts::proofs::Look::look_none), unfolding(crate::specs::Figure18::command_at, crate::specs::Command::command_of, facts::specs::Look::look))]
 pub fn decode(word: u16) -> Command
     ensures { result ≡ command_of word }
 {

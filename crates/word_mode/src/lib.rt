@@ -1,4 +1,6 @@
 // The mode, its fields, and the end reasons that its triples enable.
+#![tactic(auto)]
+
 ghost use Rattle.std.specs.Prelude.{◌≡◌, ◌<◌};
 ghost use Rattle.word_mode.specs.Reasons.{some, enabled_for, triple};
 ghost use Rattle.word_mode.specs.Mode.{operation_of, request_mode_of, is_flipped, interrupt_of, reload_of, chain_of, match_control, is_masked, is_requested, with_flip, with_mask, with_request, kept_high};
@@ -8,7 +10,7 @@ use word_operation::Operation;
 // ---- end reasons
 
 // Why an operation ends; also a triple of the mode, by which each reason is enabled or not.
-#[derive(Drop)]
+#[derive(Clone, Copy)]
 pub struct Reasons {
     pub tc: bool,
     pub mc: bool,
@@ -44,7 +46,7 @@ fn triple_at(low: u16, k: u16) -> Reasons
     }
 }
 
-#[derive(Drop)]
+#[derive(Clone, Copy)]
 pub enum RequestMode {
     Single,
     DemandHold,
@@ -53,7 +55,7 @@ pub enum RequestMode {
 }
 
 // Bits 20-16 are bits 4-0 of the high word.
-#[derive(Drop)]
+#[derive(Clone, Copy)]
 pub struct Mode {
     pub high: u16,
     pub low: u16,

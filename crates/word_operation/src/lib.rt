@@ -1,18 +1,20 @@
 // What an operation does, a row for each code.
+#![tactic(auto)]
+
 ghost use Rattle.std.specs.Prelude.{◌≡◌};
 ghost use Rattle.word_operation.specs.Operation.{moving, comparing, not_carried, operation_at, datum_width};
 
 use space::Width;
 
 // What a unit does with its source and its destination. In funnelling A is the byte side and B the word side.
-#[derive(Drop)]
+#[derive(Clone, Copy)]
 pub enum Moves {
     Transfer(Width),
     Search(Width),
     Funnel,
 }
 
-#[derive(Drop)]
+#[derive(Clone, Copy)]
 pub struct Operation {
     pub carried: bool,
     pub compares: bool,
@@ -49,6 +51,7 @@ fn not_carried() -> Operation
     }
 }
 
+#[tactic(auto, using(facts::proofs::Look::look_none), unfolding(facts::specs::Look::look))]
 pub fn operation_of(code: u16) -> Operation
     ensures { result ≡ operation_at code }
 {

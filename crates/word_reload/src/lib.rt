@@ -1,8 +1,10 @@
 // The reload word: which entries a chain table has, in which order they come, and how many words they are.
+#![tactic(auto)]
+
 ghost use Rattle.std.specs.Prelude.{◌≡◌};
 ghost use Rattle.word_reload.specs.Reload.{next_of, entry_of, rest_of, words_of, is_pair};
 
-#[derive(Drop)]
+#[derive(Clone, Copy)]
 pub enum Entry {
     CurrentA,
     CurrentB,
@@ -18,7 +20,7 @@ pub enum Entry {
 }
 
 // What is left of a chain's table, whether the second word of its next entry comes, and a new chain upper that waits for its lower.
-#[derive(Drop)]
+#[derive(Clone, Copy)]
 pub struct Progress {
     pub left: u16,
     pub second: bool,
@@ -26,20 +28,21 @@ pub struct Progress {
 }
 
 // The word of a chain that is fetched next.
-#[derive(Drop)]
+#[derive(Clone, Copy)]
 pub enum Stage {
     Reload,
     Entries(Progress),
 }
 
 // What follows a fetched word: more words, or the chain is complete.
-#[derive(Drop)]
+#[derive(Clone, Copy)]
 pub enum Next {
     More(Progress),
     Complete,
 }
 
 // The place of the next entry, 0 for that of bit 9 to 9 for that of bit 0; 10 where none is left.
+#[tactic(auto, using(crate::proofs::Laws::leading), unfolding(crate::specs::Reload::next_of))]
 fn next_place(left: u16) -> u32
     ensures { result ≡ next_of left }
 {
@@ -47,6 +50,7 @@ fn next_place(left: u16) -> u32
 }
 
 // The entry that comes next of those that are left.
+#[tactic(auto, using(facts::proofs::Look::look_none), unfolding(crate::specs::Reload::entry_of, facts::specs::Look::look))]
 pub fn next_entry(left: u16) -> Entry
     ensures { result ≡ entry_of left }
 {
@@ -67,6 +71,7 @@ pub fn next_entry(left: u16) -> Entry
 }
 
 // What is left once the next entry is taken.
+#[tactic(auto, using(crate::proofs::Laws::lows, crate::proofs::Laws::next_le), unfolding(crate::specs::Reload::rest_of))]
 pub fn rest(left: u16) -> u16
     ensures { result ≡ rest_of left }
 {
@@ -75,6 +80,7 @@ pub fn rest(left: u16) -> u16
 }
 
 // The words of a chain table, the reload word among them: one for each entry, and one more for each that has two.
+#[tactic(auto, using(facts::proofs::Masks::and_low, crate::proofs::Laws::counted), unfolding(crate::specs::Reload::words_of))]
 pub fn words(reload: u16) -> u32
     ensures { result ≡ words_of reload }
 {

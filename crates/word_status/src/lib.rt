@@ -1,8 +1,10 @@
 // The status word and the interrupt save word from their flags.
+#![tactic(auto)]
+
 ghost use Rattle.std.specs.Prelude.{◌≡◌};
 ghost use Rattle.word_status.specs.Status.{status_word, save_word};
 
-#[derive(Drop)]
+#[derive(Clone, Copy)]
 pub struct Flags {
     pub cie: bool,
     pub ip: bool,

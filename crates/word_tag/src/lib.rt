@@ -1,4 +1,6 @@
 // The upper/tag word of an address register: its fields by shifts and masks.
+#![tactic(auto)]
+
 ghost use Rattle.std.specs.Prelude.{◌≡◌};
 ghost use Rattle.word_tag.specs.Tag.{kept_tag, kept_chain, is_memory, is_normal, step_of, waits_of};
 
