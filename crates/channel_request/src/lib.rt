@@ -24,6 +24,7 @@ fn has_arrived(mode: RequestMode, line: Line) -> bool
     }
 }
 
+#[tactic(auto, unfolding(crate::specs::Request::requests))]
 pub fn is_requesting(mode: Mode, line: Line) -> bool
     ensures { result ≡ requests mode line }
 {

@@ -20,6 +20,7 @@ struct Got {
     step: AddressStep,
 }
 
+#[tactic(auto, unfolding(word_address::specs::Address::place_of))]
 fn read_on(a: Address, w: Width, memory: &[u8], io: &[u8]) -> Got
     ensures { (result.datum ≡ read_at w (spaces memory.now io.now) (place_of a)) × (result.step ≡ step_to a (stepped_on w a)) }
 {
@@ -37,6 +38,7 @@ fn read_on(a: Address, w: Width, memory: &[u8], io: &[u8]) -> Got
 }
 
 // The register's step after a write.
+#[tactic(auto, unfolding(word_address::specs::Address::place_of))]
 fn write_on(a: Address, w: Width, datum: u16, memory: &mut [u8], io: &mut [u8]) -> AddressStep
     ensures { (result ≡ step_to a (stepped_on w a)) × (spaces memory.new io.new ≡ written w (spaces memory.old io.old) (place_of a) datum) }
 {

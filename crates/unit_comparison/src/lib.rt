@@ -65,6 +65,7 @@ fn tell_of(w: Width, control: u16, high: bool, low: bool) -> Compared
     }
 }
 
+#[tactic(auto, using(crate::proofs::Bitwise::halves), unfolding(crate::specs::Comparison::comparison))]
 pub fn compare(w: Width, datum: u16, pattern: u16, mask: u16, control: u16) -> Compared
     ensures { result ≡ comparison w datum pattern mask control }
 {

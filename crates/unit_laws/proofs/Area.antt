@@ -63,6 +63,7 @@ word_read a n l x = go x.2
     go : In l (word_reads a x.0) → (i : ℕ) × (i < n * 2) × (l ≡ half a i)
     go (inl e) = (x.0 * 2, omega arith, e ∙ sym (half_high a x.0))
     go (inr (inl e)) = (suc (x.0 * 2), omega arith, e ∙ sym (half_low a x.0))
+    go (inr (inr x3)) = elim x3 [ ]
 
 byte_read : (b : Lane) (n : ℕ) (l : Place) → Area n (byte_reads b) l → (i : ℕ) × (i < n * 2) × (l ≡ byte b i)
 byte_read b n l x = go x.2
@@ -73,6 +74,7 @@ byte_read b n l x = go x.2
     go : In l (byte_reads b x.0) → (i : ℕ) × (i < n * 2) × (l ≡ byte b i)
     go (inl e) = (x.0 * 2, omega arith, e)
     go (inr (inl e)) = (suc (x.0 * 2), omega arith, e)
+    go (inr (inr x3)) = elim x3 [ ]
 
 pub laid_bytes : (n : ℕ) (up : Bool) (a b h : Lane) (s : Spaces) → AreasInside n a b h s → Laid n (word_reads a) (byte_writes up b) s
 laid_bytes n up a b h s x = laid_strips n 2 (word_reads a) (byte_writes up b) (byte b) s (record {

@@ -52,6 +52,7 @@ impl Address {
     }
 
     // The step after an access of a width at the register's address n, by its step field.
+    #[tactic(auto, unfolding(word_tag::specs::Tag::direction_of, crate::specs::Address::stepped_on))]
     pub fn stepped_from(self, n: u32, w: Width) -> AddressStep
         requires { n ≡ number self }
         ensures { result ≡ step_to self (stepped_on w self) }
@@ -61,6 +62,7 @@ impl Address {
     }
 
     // The step of a chain address after a fetch: each adds 2.
+    #[tactic(auto, unfolding(crate::specs::Address::fetched_on))]
     pub fn fetched(self) -> AddressStep
         ensures { result ≡ step_to self (fetched_on self) }
     {

@@ -18,6 +18,7 @@ pub struct Reasons {
 }
 
 impl Reasons {
+    #[tactic(auto, unfolding(crate::specs::Reasons::some))]
     pub fn any(self) -> bool
         ensures { result ≡ some self }
     {
@@ -25,6 +26,7 @@ impl Reasons {
     }
 
     // A triple is enabled for one of the reasons.
+    #[tactic(auto, unfolding(crate::specs::Reasons::enabled_for))]
     pub fn enables(self, why: Reasons) -> bool
         ensures { result ≡ enabled_for self why }
     {
@@ -62,6 +64,7 @@ pub struct Mode {
 }
 
 impl Mode {
+    #[tactic(auto, using(facts::proofs::Masks::and_15), unfolding(crate::specs::Mode::operation_of))]
     pub fn operation(self) -> Operation
         ensures { result ≡ operation_of self }
     {
@@ -74,6 +77,7 @@ impl Mode {
         (self.low >> 4) & 1 == 1
     }
 
+    #[tactic(auto, using(facts::proofs::Masks::and_3, facts::proofs::Look::look_none), unfolding(facts::specs::Look::look, crate::specs::Mode::request_mode_of))]
     pub fn request_mode(self) -> RequestMode
         ensures { result ≡ request_mode_of self }
     {
