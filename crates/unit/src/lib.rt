@@ -42,6 +42,7 @@ fn is_odd_at(w: Width, a: Address) -> bool
 }
 
 // A word side at an odd address that the unit uses; a search uses its source alone.
+#[tactic(auto, using(crate::proofs::CodeLaws::transfer_odd, crate::proofs::CodeLaws::search_odd, crate::proofs::CodeLaws::funnel_odd, crate::proofs::CodeLaws::even_even))]
 fn is_odd_word(moves: Moves, flip: bool, s: Set) -> bool
     ensures { result ≡ odd_word moves flip s }
 {
@@ -57,6 +58,7 @@ fn is_odd_word(moves: Moves, flip: bool, s: Set) -> bool
 }
 
 // The number by which a unit is refused, or 0.
+#[tactic(auto, unfolding(crate::specs::Unit::unit_refusal))]
 pub fn unit_refusal(board: Board, mode: Mode, s: Set) -> u8
     ensures { result ≡ unit_refusal board mode s }
 {
