@@ -41,6 +41,7 @@ fn is_chain_address(e: Entry) -> bool
     }
 }
 
+#[tactic(auto, unfolding(crate::specs::Chaining::advanced, crate::specs::Chaining::changes_upper))]
 fn advance(mut c: Channel) -> Advanced
     ensures { (result.channel ≡ advanced c) × (result.upper ≡ changes_upper c) }
 {
@@ -53,6 +54,7 @@ fn advance(mut c: Channel) -> Advanced
     }
 }
 
+#[tactic(auto, unfolding(crate::specs::Chaining::next_of))]
 fn what_next(left: u16) -> Next
     ensures { result ≡ next_of left }
 {
@@ -67,6 +69,7 @@ fn what_next(left: u16) -> Next
     }
 }
 
+#[tactic(auto, unfolding(crate::specs::Chaining::load_reload))]
 fn load_reload(w: u16, c: Channel) -> Loaded
     ensures { result ≡ load_reload w c }
 {
@@ -80,6 +83,7 @@ fn load_reload(w: u16, c: Channel) -> Loaded
 }
 
 // The old chain address is used and read until both words of the new one are there; the new one takes its place unstepped.
+#[tactic(auto, unfolding(crate::specs::Chaining::load_entry))]
 fn load_address(p: Progress, w: u16, mut c: Channel) -> Loaded
     ensures { result ≡ load_entry ChainAddress p w c }
 {
@@ -158,6 +162,7 @@ fn settle(next: Next, mut c: Channel) -> Channel
 }
 
 // A channel after its chain's next word; it has no chain pending any more.
+#[tactic(auto, unfolding(crate::specs::Chaining::fetched_of))]
 pub fn fetch(stage: Stage, w: u16, mut c: Channel) -> Loaded
     ensures { result ≡ fetched_of stage w c }
 {
@@ -172,6 +177,7 @@ pub fn fetch(stage: Stage, w: u16, mut c: Channel) -> Loaded
 }
 
 // EOP with a chain fetch: the chain is dropped, CA and NAC are set.
+#[tactic(auto, unfolding(crate::specs::Chaining::dropped_of))]
 pub fn drop_chain(mut c: Channel) -> Channel
     ensures { result ≡ dropped_of c }
 {

@@ -65,6 +65,7 @@ fn is_two(which: Which) -> bool
 }
 
 impl Channel {
+    #[tactic(auto, unfolding(crate::specs::Candidate::is_candidate))]
     pub fn is_candidate(self) -> bool
         ensures { result ≡ is_candidate self }
     {
@@ -72,6 +73,7 @@ impl Channel {
         self.pending | (requesting & ((!self.status.nac & !self.interrupt.sip) & !self.status.ca))
     }
 
+    #[tactic(auto, unfolding(crate::specs::Reset::reset_channel))]
     pub fn reset(mut self) -> Channel
         ensures { result ≡ reset_channel self }
     {
@@ -108,6 +110,7 @@ impl Channel {
         }
     }
 
+    #[tactic(auto, unfolding(crate::specs::Ending::saved))]
     pub fn with_save(mut self, which: Which) -> Channel
         ensures { result ≡ saved which self }
     {
@@ -117,6 +120,7 @@ impl Channel {
     }
 
     // IP is set, and save loaded.
+    #[tactic(auto, unfolding(crate::specs::Ending::with_ip))]
     pub fn with_ip(mut self, which: Which) -> Channel
         ensures { result ≡ with_ip which self }
     {
@@ -125,6 +129,7 @@ impl Channel {
     }
 
     // An end writes its reasons, and clears the software bit and the stored change.
+    #[tactic(auto, unfolding(crate::specs::Ending::flagged))]
     fn flag(mut self, why: Reasons) -> Channel
         ensures { result ≡ flagged why self }
     {
@@ -137,6 +142,7 @@ impl Channel {
         self
     }
 
+    #[tactic(auto, using(crate::proofs::CodeLaws::first_interrupt), unfolding(crate::specs::Ending::interrupted))]
     fn interrupt_for(self, which: Which, why: Reasons) -> Channel
         ensures { result ≡ interrupted which why self }
     {
@@ -154,6 +160,7 @@ impl Channel {
     }
 
     // What an end does but for a chain: reload, or NAC.
+    #[tactic(auto, unfolding(crate::specs::Ending::finished))]
     pub fn finish(mut self, why: Reasons) -> Channel
         ensures { result ≡ finished why self }
     {
@@ -171,6 +178,7 @@ impl Channel {
         self
     }
 
+    #[tactic(auto, using(crate::proofs::CodeLaws::end_finished), unfolding(crate::specs::Ending::end_of))]
     pub fn end(self, which: Which, why: Reasons) -> Ended
         ensures { result ≡ end_of which why self }
     {
@@ -189,6 +197,7 @@ impl Channel {
     }
 
     // What the unit made of the current registers and of MCH and MCL.
+    #[tactic(auto, unfolding(crate::specs::Ending::moved_by))]
     pub fn with_moved(mut self, m: Moved) -> Channel
         ensures { result ≡ moved_by m self }
     {
@@ -212,6 +221,7 @@ impl Channel {
         self
     }
 
+    #[tactic(auto, unfolding(crate::specs::Ending::unended))]
     fn unend(self) -> Channel
         ensures { result ≡ unended self }
     {

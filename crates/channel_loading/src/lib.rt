@@ -76,6 +76,7 @@ pub fn with_chain(second: bool, w: u16, mut c: Channel) -> Channel
     c
 }
 
+#[tactic(auto, unfolding(crate::specs::Loading::loaded))]
 pub fn current_a(second: bool, w: u16, mut c: Channel) -> Channel
     ensures { result ≡ loaded CurrentA second w c }
 {
@@ -84,6 +85,7 @@ pub fn current_a(second: bool, w: u16, mut c: Channel) -> Channel
     c
 }
 
+#[tactic(auto, unfolding(crate::specs::Loading::loaded))]
 pub fn current_b(second: bool, w: u16, mut c: Channel) -> Channel
     ensures { result ≡ loaded CurrentB second w c }
 {
@@ -92,6 +94,7 @@ pub fn current_b(second: bool, w: u16, mut c: Channel) -> Channel
     c
 }
 
+#[tactic(auto, unfolding(crate::specs::Loading::loaded))]
 pub fn base_a(second: bool, w: u16, mut c: Channel) -> Channel
     ensures { result ≡ loaded BaseA second w c }
 {
@@ -100,6 +103,7 @@ pub fn base_a(second: bool, w: u16, mut c: Channel) -> Channel
     c
 }
 
+#[tactic(auto, unfolding(crate::specs::Loading::loaded))]
 pub fn base_b(second: bool, w: u16, mut c: Channel) -> Channel
     ensures { result ≡ loaded BaseB second w c }
 {
@@ -108,6 +112,7 @@ pub fn base_b(second: bool, w: u16, mut c: Channel) -> Channel
     c
 }
 
+#[tactic(auto, unfolding(crate::specs::Loading::loaded))]
 pub fn current_count(w: u16, mut c: Channel) -> Channel
     ensures { result ≡ loaded CurrentCount false w c }
 {
@@ -115,6 +120,7 @@ pub fn current_count(w: u16, mut c: Channel) -> Channel
     c
 }
 
+#[tactic(auto, unfolding(crate::specs::Loading::loaded))]
 pub fn base_count(w: u16, mut c: Channel) -> Channel
     ensures { result ≡ loaded BaseCount false w c }
 {
@@ -122,6 +128,7 @@ pub fn base_count(w: u16, mut c: Channel) -> Channel
     c
 }
 
+#[tactic(auto, unfolding(crate::specs::Loading::loaded))]
 pub fn vector(w: u16, mut c: Channel) -> Channel
     ensures { result ≡ loaded Vector false w c }
 {
@@ -131,6 +138,7 @@ pub fn vector(w: u16, mut c: Channel) -> Channel
 }
 
 // The first or only word, or the second, of an entry. One variable goes through the arms: where several meet, the compiler keeps each.
+#[tactic(auto, unfolding(crate::specs::Loading::loaded))]
 pub fn load(e: Entry, second: bool, w: u16, c: Channel) -> Channel
     ensures { result ≡ loaded e second w c }
 {

@@ -71,6 +71,7 @@ pub fn whose_turn(first: bool, second: bool, both: bool, served: Served) -> Turn
 }
 
 // Rule 4, for a channel that keeps the bus.
+#[tactic(auto, unfolding(crate::specs::Channels::keeper))]
 pub fn keeper_intent(w: Which, c: Channel) -> Choice
     ensures { result ≡ keeper w c }
 {
@@ -119,6 +120,7 @@ pub fn refused_or(n: u8, intent: Choice) -> Choice
     if n == 0 { intent } else { Choice::Refused(n) }
 }
 
+#[tactic(auto, unfolding(channel::specs::Candidate::interleaves))]
 pub fn is_interleaving(c: Channel) -> bool
     ensures { result ≡ interleaves c }
 {
