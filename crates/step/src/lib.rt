@@ -96,6 +96,7 @@ pub fn work_of(c: Channel) -> Work
 }
 
 impl Controller {
+    #[tactic(auto, unfolding(crate::specs::Controller::at))]
     pub fn channel(self, w: Which) -> Channel
         ensures { result ≡ at w self }
     {
@@ -105,6 +106,7 @@ impl Controller {
         }
     }
 
+    #[tactic(auto, unfolding(crate::specs::Controller::with))]
     pub fn with_channel(mut self, w: Which, c: Channel) -> Controller
         ensures { result ≡ with w c self }
     {
@@ -130,6 +132,7 @@ impl Controller {
 
     // ---- which step comes next
 
+    #[tactic(auto, unfolding(crate::specs::Controller::at))]
     fn begin(self, w: Which) -> Choice
         ensures { result ≡ beginning (at w self).pending w }
     {
@@ -140,6 +143,7 @@ impl Controller {
     }
 
     // Whose turn it is among the candidates.
+    #[tactic(auto, unfolding(crate::specs::Choice::turn))]
     pub fn turn(self) -> Turn
         ensures { result ≡ turn self }
     {
@@ -155,6 +159,7 @@ impl Controller {
         )
     }
 
+    #[tactic(auto, using(crate::proofs::CodeLaws::nobodys, crate::proofs::CodeLaws::whose))]
     fn candidate_intent(self) -> Choice
         ensures { result ≡ turned (turn self) (facts_of self) }
     {
@@ -165,6 +170,7 @@ impl Controller {
         }
     }
 
+    #[tactic(auto, unfolding(crate::specs::Controller::at))]
     fn keeper(self, w: Which) -> Choice
         ensures { result ≡ keeper w (at w self) }
     {
@@ -175,6 +181,7 @@ impl Controller {
     }
 
     // Rules 2 to 6.
+    #[tactic(auto, using(crate::proofs::CodeLaws::rule_2, crate::proofs::CodeLaws::rule_3, crate::proofs::CodeLaws::rule_4, crate::proofs::CodeLaws::rule_5))]
     fn enabled_intent(self) -> Choice
         ensures { result ≡ intent_by true self.control.chain self.control.note self.control.bus (facts_of self) }
     {
@@ -196,6 +203,7 @@ impl Controller {
     }
 
     // What the rules intend, in their order.
+    #[tactic(auto, using(crate::proofs::CodeLaws::rule_1, crate::proofs::CodeLaws::rules_on))]
     fn intent(self) -> Choice
         ensures { result ≡ intent_of (facts_of self) }
     {
@@ -205,6 +213,7 @@ impl Controller {
         Choice::Disabled
     }
 
+    #[tactic(auto, unfolding(crate::specs::Controller::at))]
     fn has_odd_table(self, w: Which) -> bool
         ensures { result ≡ is_odd (at w self).chain }
     {
@@ -214,6 +223,7 @@ impl Controller {
         }
     }
 
+    #[tactic(auto, unfolding(crate::specs::Controller::at))]
     fn unit_refusal(self, board: Board, w: Which) -> u8
         ensures { result ≡ unit_refusal board (at w self).mode (at w self).current }
     {
@@ -224,6 +234,7 @@ impl Controller {
     }
 
     // The number that refuses what is intended, or 0. No rule of document 01 looks at the board.
+    #[tactic(auto, unfolding(unit::specs::Unit::unit_refusal))]
     fn refusal(self, board: Board, intent: Choice) -> u8
         ensures { result ≡ first_of (refusals intent (faults_of board self)) }
     {
@@ -240,6 +251,7 @@ impl Controller {
     }
 
     // Which step comes next: the first refusal of what the rules intend, or the intent.
+    #[tactic(auto, unfolding(crate::specs::Choice::choice, step_rules::specs::Rules::choice_of))]
     pub fn choose(self, board: Board) -> Choice
         ensures { result ≡ choice board self }
     {
@@ -266,6 +278,7 @@ impl Controller {
     }
 
     // The controller after a word of a chain, whose channel is then d.
+    #[tactic(auto, using(crate::proofs::CodeLaws::fetched))]
     pub fn settle_fetch(self, w: Which, d: Channel, next: Next) -> Controller
         ensures { result ≡ after_word w d next self }
     {
@@ -282,6 +295,7 @@ impl Controller {
     }
 
     // The next word of a chain, or its end by EOP.
+    #[tactic(auto, unfolding(crate::specs::Fetching::drop_of, crate::specs::Fetching::fetch_of))]
     fn fetch(self, w: Which, stage: Stage, eop: bool, memory: &[u8]) -> Stepped
         ensures { result ≡ fetch_of w stage eop self memory.now }
     {
@@ -304,6 +318,7 @@ impl Controller {
 
     // ---- a unit
 
+    #[tactic(auto, unfolding(crate::specs::Controller::at))]
     pub fn request_mode(self, w: Which) -> RequestMode
         ensures { result ≡ request_mode_of (at w self).mode }
     {
@@ -314,6 +329,7 @@ impl Controller {
     }
 
     // A unit that does not end its operation.
+    #[tactic(auto, using(crate::proofs::CodeLaws::gone_on_lem), unfolding(crate::specs::Controller::at, crate::specs::Controller::with))]
     fn go_on(mut self, w: Which, m: Moved) -> Controller
         ensures { result ≡ gone_on w self m }
     {
@@ -336,6 +352,7 @@ impl Controller {
     }
 
     // A unit that ends it.
+    #[tactic(auto, unfolding(crate::specs::Step::ended_after))]
     fn end_after(self, w: Which, why: Reasons, m: Moved) -> Controller
         ensures { result ≡ ended_after w why self m }
     {
@@ -347,6 +364,7 @@ impl Controller {
     }
 
     // A channel after its unit, and the controller with it.
+    #[tactic(auto, using(crate::proofs::CodeLaws::settles_on, crate::proofs::CodeLaws::settles_ended))]
     pub fn settle_unit(self, w: Which, eop: bool, m: Moved) -> Stepped
         ensures { result ≡ unit_of w eop self m }
     {
@@ -375,6 +393,7 @@ impl Controller {
         }
     }
 
+    #[tactic(auto, using(crate::proofs::CodeLaws::does_unit))]
     fn unit(self, w: Which, eop: bool, memory: &mut [u8], io: &mut [u8]) -> Stepped
         ensures { outcome result (spaces memory.new io.new) ≡ perform_of (Choice.Unit w) eop self (spaces memory.old io.old) }
     {
@@ -385,6 +404,7 @@ impl Controller {
     // ---- holding, and given back
 
     // EOP while holding ends the operation.
+    #[tactic(auto, unfolding(crate::specs::Step::hold_of))]
     pub fn end_held(self, w: Which) -> Controller
         ensures { result ≡ (hold_of w true self).state }
     {
@@ -401,6 +421,7 @@ impl Controller {
         self.with_both(w, d, step_bus_code::held_control(e.chains, w, k))
     }
 
+    #[tactic(auto, unfolding(crate::specs::Step::hold_of))]
     fn hold(self, w: Which, eop: bool) -> Stepped
         ensures { result ≡ hold_of w eop self }
     {
@@ -429,6 +450,7 @@ impl Controller {
     // ---- a step
 
     // What was chosen is done.
+    #[tactic(auto, unfolding(crate::specs::Step::perform_of))]
     fn perform(self, choice: Choice, eop: bool, memory: &mut [u8], io: &mut [u8]) -> Stepped
         ensures { outcome result (spaces memory.new io.new) ≡ perform_of choice eop self (spaces memory.old io.old) }
     {
@@ -460,6 +482,7 @@ impl Controller {
     }
 
     // One step, with EOP given or not.
+    #[tactic(auto, unfolding(crate::specs::Step::step_of))]
     pub fn step(self, eop: bool, memory: &mut [u8], io: &mut [u8]) -> Stepped
         ensures { outcome result (spaces memory.new io.new) ≡ step_of eop self (spaces memory.old io.old) }
     {
