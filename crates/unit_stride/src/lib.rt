@@ -144,7 +144,6 @@ fn changes_behind(mode: Mode, s: Set) -> u16
 // ---- units that follow each other
 
 // A unit, and those of the same channel that follow it, up to a limit.
-#[tactic(auto, using(facts::proofs::Rows::begun, facts::proofs::Rows::on_yet, facts::proofs::Rows::all_done, facts::proofs::Rows::turn, facts::proofs::Rows::fewer_left, crate::proofs::CodeLaws::tells, crate::proofs::CodeLaws::words_left_lem, crate::proofs::CodeLaws::UnitLoop))]
 fn move_on(board: Board, w: Work, limit: u32, memory: &mut [u8], io: &mut [u8]) -> MovedOn
     ensures { (moved_on_as result (spaces memory.new io.new) ≡ moved_on board (limit - 1) 0 w (spaces memory.old io.old)) × Tells w.mode result.moved }
 {
@@ -176,7 +175,6 @@ fn turn_limit(both: bool, limit: u32) -> u32
 }
 
 // Units of one channel, or of both in turn, up to a limit. The inner loop has what stays the same from unit to unit outside of it.
-#[tactic(auto, using(facts::proofs::Rows::begun, facts::proofs::Rows::all_done, crate::proofs::CodeLaws::Turning, crate::proofs::CodeLaws::PairLoop, crate::proofs::CodeLaws::counts, crate::proofs::CodeLaws::less_two, crate::proofs::CodeLaws::turned_two, crate::proofs::CodeLaws::less_one, crate::proofs::CodeLaws::done_one))]
 pub fn carry_on(
     board: Board,
     first: Pair,

@@ -1,4 +1,4 @@
-use Rattle.step.proofs.CodeLaws.{rule_2, rule_3, rule_4, rule_5}
+use Rattle.step.proofs.CodeLaws.{rule_2, rule_3, rule_4, rule_4}
 use Rattle.std.proofs.Common.{rules, ◌≡◌, true, ℕ, ◌+◌, ◌-◌, ◌*◌, ◌<◌, ◌≤◌, length, ◌/◌, ◌%◌, Bool, false, nat_eq, nat_lt, List, [], ◌∷◌, ◌++◌, slice_index_or, slice_set, bit_and, bit_or, Fits, w8, w32, w64, Bor, MutBor}
 use Rattle.facts.specs.First.{first_of}
 use Rattle.space.specs.Space.{spaces}
@@ -16,4 +16,4 @@ use Rattle.step.specs.Step.{outcome, work_of, gone_on, ended_after, unit_of, hol
 use Rattle.step.proofs.Controller.enabled_intent.Goals as goal
 
 pub returns-in-Kept : goal.returns-in-Kept
-returns-in-Kept c = rule_5 c.args.self _ c.enum_told.given.1 c.if-control.false c.enum-told2.given.1 c.candidate-intent.ensures
+returns-in-Kept c = rule_4 c.args.self _ _ c.in-NoChain.is c.if-control.false c.in-Kept.is c.keeper.ensures
