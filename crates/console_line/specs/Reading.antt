@@ -1,5 +1,5 @@
 -- The console's language: what each line asks for. Assumes nothing.
-use Rattle.std.specs.Prelude.{ℕ, zero, suc, ◌+◌, ◌%◌, Bool, true, false, cond, List, [], ◌∷◌, eqb, ltb, length, set}
+use Rattle.std.specs.Prelude.{ℕ, zero, suc, ◌+◌, ◌%◌, true, false, cond, List, eqb, ltb, length, set}
 use Rattle.console_line.specs.declared.LentSpace.{LentSpace}
 use Rattle.console_line.specs.declared.LentSpace.TheVariants as space
 use Rattle.console_line.specs.declared.RegisterCall.TheVariants as call

@@ -29,6 +29,7 @@ pub enum Name {
     Unknown,
 }
 
+#[tactic(auto, unfolding(crate::specs::Names::named))]
 pub fn name_of(s: &[u8]) -> Name
     ensures { result ≡ named s.now names }
 {
@@ -53,6 +54,7 @@ pub fn name_of(s: &[u8]) -> Name
     name_of_other_call(s)
 }
 
+#[tactic(auto, unfolding(crate::specs::Names::named))]
 fn name_of_other_call(s: &[u8]) -> Name
     ensures { result ≡ named s.now other_names }
 {
@@ -71,6 +73,7 @@ fn name_of_other_call(s: &[u8]) -> Name
     name_at_the_bench(s)
 }
 
+#[tactic(auto, unfolding(crate::specs::Names::named))]
 fn name_at_the_bench(s: &[u8]) -> Name
     ensures { result ≡ named s.now bench_names }
 {
@@ -159,6 +162,7 @@ fn low_byte(n: u32) -> u8
 }
 
 // What a line asks whose last word was read, if nothing follows it.
+#[tactic(auto, unfolding(crate::specs::Reading::last_of))]
 fn last(more: &[u8], asked: Request) -> Request
     ensures { result ≡ last_of more.now asked }
 {
@@ -168,6 +172,7 @@ fn last(more: &[u8], asked: Request) -> Request
     Request::Unreadable
 }
 
+#[tactic(auto, unfolding(crate::specs::Reading::pointer_of, crate::specs::Reading::with_number))]
 fn pointer(s: &[u8]) -> Request
     ensures { result ≡ pointer_of s.now }
 {
@@ -183,6 +188,7 @@ fn pointer(s: &[u8]) -> Request
     )
 }
 
+#[tactic(auto, unfolding(crate::specs::Reading::with_number, crate::specs::Reading::write_of))]
 fn write(s: &[u8]) -> Request
     ensures { result ≡ write_of s.now }
 {
@@ -195,6 +201,7 @@ fn write(s: &[u8]) -> Request
     )
 }
 
+#[tactic(auto, unfolding(crate::specs::Reading::set_of, crate::specs::Reading::with_number))]
 fn set(s: &[u8]) -> Request
     ensures { result ≡ set_of s.now }
 {
@@ -211,6 +218,7 @@ fn set(s: &[u8]) -> Request
     )
 }
 
+#[tactic(auto, unfolding(crate::specs::Reading::get_of, crate::specs::Reading::with_number))]
 fn get(s: &[u8]) -> Request
     ensures { result ≡ get_of s.now }
 {
@@ -223,6 +231,7 @@ fn get(s: &[u8]) -> Request
     )
 }
 
+#[tactic(auto, unfolding(crate::specs::Reading::level_of))]
 fn line_level(c: u8, s: &[u8]) -> Request
     ensures { result ≡ level_of c s.now }
 {
@@ -242,6 +251,7 @@ fn line_level(c: u8, s: &[u8]) -> Request
     Request::Unreadable
 }
 
+#[tactic(auto, unfolding(crate::specs::Reading::line_of, crate::specs::Reading::with_number))]
 fn line(s: &[u8]) -> Request
     ensures { result ≡ line_of s.now }
 {
@@ -251,6 +261,7 @@ fn line(s: &[u8]) -> Request
     line_level(low_byte(c), text_scan::rest(s))
 }
 
+#[tactic(auto, unfolding(crate::specs::Reading::step_of))]
 fn step(s: &[u8]) -> Request
     ensures { result ≡ step_of s.now }
 {
@@ -263,6 +274,7 @@ fn step(s: &[u8]) -> Request
     Request::Unreadable
 }
 
+#[tactic(auto, unfolding(crate::specs::Reading::run_of, crate::specs::Reading::with_number))]
 fn run(s: &[u8]) -> Request
     ensures { result ≡ run_of s.now }
 {
@@ -272,6 +284,7 @@ fn run(s: &[u8]) -> Request
     last(text_scan::rest(s), Request::Advance(Advance::Run(n)))
 }
 
+#[tactic(auto, unfolding(crate::specs::Reading::why_of, crate::specs::Reading::with_number))]
 fn why(s: &[u8]) -> Request
     ensures { result ≡ why_of s.now }
 {
@@ -281,6 +294,7 @@ fn why(s: &[u8]) -> Request
     last(text_scan::rest(s), Request::Why(low_byte(c)))
 }
 
+#[tactic(auto, unfolding(crate::specs::Reading::limit_of))]
 fn limit(space: LentSpace) -> u32
     ensures { result ≡ limit_of space }
 {
@@ -290,6 +304,7 @@ fn limit(space: LentSpace) -> u32
     }
 }
 
+#[tactic(auto, unfolding(crate::specs::Reading::lend_by, crate::specs::Reading::lend_of))]
 fn lend(space: LentSpace, s: &[u8]) -> Input
     ensures { result ≡ lend_of space s.now }
 {
@@ -311,6 +326,7 @@ enum Named {
     Nowhere,
 }
 
+#[tactic(auto, unfolding(crate::specs::Reading::space_of))]
 fn space_named(s: &[u8]) -> Named
     ensures { result ≡ space_of s.now }
 {
@@ -324,6 +340,7 @@ fn space_named(s: &[u8]) -> Named
 }
 
 // How many bytes the words of a text are, each put in its place.
+#[tactic(auto, using(facts::proofs::Lists::all_left, facts::proofs::Lists::some_left, facts::proofs::Lists::none_left, crate::proofs::Laws::fill_none, crate::proofs::Laws::fill_full, crate::proofs::Laws::fill_bad, crate::proofs::Laws::fill_on))]
 fn bytes_of(s: &[u8], bytes: &mut [u8; 64]) -> Number
     ensures { filled result bytes.new ≡ bytes_from 64 0 s.now bytes.old }
 {
@@ -344,6 +361,7 @@ fn bytes_of(s: &[u8], bytes: &mut [u8; 64]) -> Number
     Number::Of(n as u32)
 }
 
+#[tactic(auto, unfolding(crate::specs::Reading::at_number, crate::specs::Reading::in_space, crate::specs::Reading::poke_of, crate::specs::Reading::poked_of))]
 fn poke(s: &[u8], bytes: &mut [u8; 64]) -> Request
     ensures { asked result bytes.new ≡ poke_of s.now bytes.old }
 {
@@ -363,6 +381,7 @@ fn poke(s: &[u8], bytes: &mut [u8; 64]) -> Request
     Request::Poke(space, at, n as usize)
 }
 
+#[tactic(auto, unfolding(crate::specs::Reading::peek_of, crate::specs::Reading::peeked_of, crate::specs::Reading::with_number, crate::specs::Reading::with_space))]
 fn peek(s: &[u8]) -> Request
     ensures { result ≡ peek_of s.now }
 {
@@ -384,6 +403,7 @@ fn peek(s: &[u8]) -> Request
 }
 
 // What a line of a name asks, with the words that follow.
+#[tactic(auto, unfolding(crate::specs::Reading::ask_of))]
 fn ask(name: Name, s: &[u8]) -> Request
     ensures { result ≡ ask_of name s.now }
 {
@@ -407,6 +427,7 @@ fn ask(name: Name, s: &[u8]) -> Request
 }
 
 // A line of words; a poke's bytes are put in theirs.
+#[tactic(auto, unfolding(crate::specs::Reading::read_of, crate::specs::Reading::word_of))]
 pub fn read_line(typed: &[u8], bytes: &mut [u8; 64]) -> Input
     ensures { taken result bytes.new ≡ read_of typed.now bytes.old }
 {

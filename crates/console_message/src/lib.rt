@@ -15,12 +15,14 @@ pub fn reset() -> Text
     text_print::of(b"reset")
 }
 
+#[tactic(auto, using(text_print::proofs::Laws::twice), unfolding(crate::specs::Phrases::pointer_of))]
 pub fn pointer(w: u16) -> Text
     ensures { written result ≡ line (pointer_of w) }
 {
     text_print::of(b"pointer ").hex4(w)
 }
 
+#[tactic(auto, using(text_print::proofs::Laws::twice), unfolding(crate::specs::Phrases::lent_of))]
 pub fn lent(space: LentSpace, n: u32) -> Text
     ensures { written result ≡ line (lent_of space n) }
 {
@@ -30,18 +32,21 @@ pub fn lent(space: LentSpace, n: u32) -> Text
     }
 }
 
+#[tactic(auto, using(text_print::proofs::Laws::twice), unfolding(crate::specs::Phrases::poked_of))]
 pub fn poked(n: usize) -> Text
     ensures { written result ≡ line (poked_of n) }
 {
     text_print::of(b"poked ").decimal(n as u64)
 }
 
+#[tactic(auto, using(text_print::proofs::Laws::twice))]
 fn blank_and_byte(t: Text, b: u8) -> Text
     ensures { written result ≡ appended (written t) (bytes " " ++ hex2_of b) }
 {
     t.with(b" ").hex2(b)
 }
 
+#[tactic(auto, using(text_print::proofs::Laws::room, text_print::proofs::Laws::twice, crate::proofs::Laws::one_more), unfolding(crate::specs::Phrases::bytes_of))]
 fn row_bytes(t: Text, bytes: &[u8]) -> Text
     ensures { written result ≡ appended (written t) (bytes_of bytes.now) }
 {
@@ -54,12 +59,14 @@ fn row_bytes(t: Text, bytes: &[u8]) -> Text
     t
 }
 
+#[tactic(auto, using(text_print::proofs::Laws::twice), unfolding(crate::specs::Phrases::row_of))]
 pub fn row(at: usize, bytes: &[u8]) -> Text
     ensures { written result ≡ line (row_of at bytes.now) }
 {
     row_bytes(text_print::empty().hex6(at), bytes)
 }
 
+#[tactic(auto, using(text_print::proofs::Laws::twice), unfolding(crate::specs::Phrases::not_understood_of))]
 pub fn not_understood(number: u64) -> Text
     ensures { written result ≡ line (not_understood_of number) }
 {
@@ -67,6 +74,7 @@ pub fn not_understood(number: u64) -> Text
     t.with(b" not understood")
 }
 
+#[tactic(auto, using(text_print::proofs::Laws::twice), unfolding(crate::specs::Phrases::too_large_of))]
 pub fn too_large(number: u64) -> Text
     ensures { written result ≡ line (too_large_of number) }
 {
@@ -76,6 +84,7 @@ pub fn too_large(number: u64) -> Text
 
 // ---- the help, in seventeen lines
 
+#[tactic(auto, using(facts::proofs::Look::look_none), unfolding(crate::specs::Phrases::help_on_calls, facts::specs::Look::look))]
 fn help_on_calls(t: Text, n: u8) -> Text
     ensures { written result ≡ appended (written t) (help_on_calls n) }
 {
@@ -95,6 +104,7 @@ fn help_on_calls(t: Text, n: u8) -> Text
     }
 }
 
+#[tactic(auto, using(facts::proofs::Look::look_none), unfolding(crate::specs::Phrases::help_on_the_bench, facts::specs::Look::look))]
 fn help_on_the_bench(t: Text, n: u8) -> Text
     ensures { written result ≡ appended (written t) (help_on_the_bench n) }
 {
@@ -107,6 +117,7 @@ fn help_on_the_bench(t: Text, n: u8) -> Text
     }
 }
 
+#[tactic(auto, unfolding(crate::specs::Phrases::help_of))]
 pub fn help(n: u8) -> Text
     ensures { written result ≡ line (help_of n) }
 {

@@ -7,6 +7,7 @@ ghost use Rattle.console_refusal.specs.Refusals.{refusal_words, refusal_of};
 
 use text_print::Text;
 
+#[tactic(auto, using(facts::proofs::Look::look_none), unfolding(facts::specs::Look::look, crate::specs::Refusals::refusal_words))]
 fn refusal_words(t: Text, n: u8) -> Text
     ensures { written result ≡ appended (written t) (refusal_words n) }
 {
@@ -25,6 +26,7 @@ fn refusal_words(t: Text, n: u8) -> Text
     }
 }
 
+#[tactic(auto, using(text_print::proofs::Laws::twice), unfolding(crate::specs::Refusals::refusal_of))]
 pub fn refusal(t: Text, n: u8) -> Text
     ensures { written result ≡ appended (written t) (refusal_of n) }
 {

@@ -1,16 +1,16 @@
 -- Laws of what is put at a text's end. Assumes nothing.
-use Prim.Native.Nat.{ℕ, zero, suc, ◌+◌, ◌-◌, ◌/◌, ◌%◌, ◌*◌, ◌^◌, ◌<◌, ◌≤◌}
+use Prim.Native.Nat.{ℕ, zero, suc, ◌+◌, ◌-◌, ◌/◌, ◌%◌, ◌<◌, ◌≤◌}
 use mathlib.Core.Path.{◌≡◌, refl, ap, sym}
 use mathlib.Core.List.{List, [], ◌∷◌, ◌++◌, append_assoc, append-nil}
 use native.Mathlib.Omega.{arith}
-use lib.ListN.{length, take, set, length-take, length-append}
+use lib.ListN.{length, take, drop, set, length-take, length-append}
+use Rattle.std.proofs.lemmas.List.{drop-set}
 use lib.Seq.{take_all, take-suc-set, take_at}
 use native.Mathlib.Numerals.{add-one}
-use native.Mathlib.Nat.{le_of_suc-le-suc, not-suc-le-zero, one-le-pow, pow-suc, pow-le-pow_right, lt_of_not-le}
+use native.Mathlib.Nat.{lt_of_not-le}
 use borrow.Author.Tests.{lt-ltb, le-ltb}
-use Rattle.io.specs.Digits.{last_digits, hex_digit_ascii, IsDigitCount}
 use Rattle.text_print.specs.declared.Text.{Text}
-use Rattle.text_print.specs.Text.{written, appended, digits_of, decimal_of}
+use Rattle.text_print.specs.Text.{written, appended, digits_of}
 
 cut_twice : (n : ℕ) (a b : List ℕ) → take n (take n a ++ b) ≡ take n (a ++ b)
 cut_twice zero a b = refl
@@ -42,40 +42,22 @@ byte_lost t b l h =
     let i : length t.bytes ≤ t.length = omega arith in
     rw (take_all t.length t.bytes i) (sym (take_at t.bytes (b ∷ []) 96 l))
 
-digit : (n : ℕ) → hex_digit_ascii (n % 10) ≡ 48 + n % 10
-digit n = let h : n % 10 < 10 = omega arith in rw (lt-ltb (n % 10) 10 h)
+-- a number's last digit stands before those that stand already, with others before it or with none
+module _ (held : List ℕ) (n : ℕ) where
+  pub digit_on : (k : ℕ) → 0 < k → k < length held → 10 ≤ n
+      → digits_of k n ++ drop (k + 1) held ≡ digits_of (k - 1) (n / 10) ++ drop (k - 1 + 1) (set held k (48 + n % 10))
+  unfolding digits_of
+  digit_on zero p below h = absurd (omega arith)
+  digit_on (suc k) p below h =
+      let e : suc k - 1 ≡ k = omega arith in
+      let f : k + 1 ≡ suc k = omega arith in
+      rw (le-ltb n 10 h, e, f, append_assoc, drop-set held (suc k) (48 + n % 10) below)
 
--- the fewest digits that hold a number are its decimal
-fewest : (f k n : ℕ) → k ≤ f → n < 10 ^ suc k → (0 < k → 10 ^ k ≤ n) → last_digits 10 (suc k) n ≡ digits_of f n
-unfolding digits_of
-fewest zero zero n le below above = rw (digit n)
-fewest (suc f) zero n le below above =
-    let h : n < 10 = below in
-    let e : n % 10 ≡ n = omega arith in
-    rw (digit n, lt-ltb n 10 h, e)
-fewest zero (suc k) n le below above = absurd (not-suc-le-zero le)
-fewest (suc f) (suc k) n le below above =
-    let p : 0 < 10 ^ k = one-le-pow k 10 (omega arith) in
-    let s : 10 ^ suc k ≡ 10 ^ k * 10 = pow-suc 10 k in
-    let a : 10 ^ suc k ≤ n = above (omega arith) in
-    let h : 10 ≤ n = omega arith in
-    let i : n / 10 < 10 ^ suc k = omega (arith, pow-suc 10 (suc k)) in
-    let j : 10 ^ k ≤ n / 10 = omega arith in
-    rw (fewest f k (n / 10) (le_of_suc-le-suc le) i (λ z. j), digit n, le-ltb n 10 h)
-
-no_more : (k n : ℕ) → n < 10 ^ 20 → (0 < k → 10 ^ k ≤ n) → k ≤ 19
-no_more k n small above =
-    le_of_suc-le-suc
-    (lt_of_not-le
-    (λ (h : 20 ≤ k).
-    let p : 10 ^ 20 ≤ 10 ^ k = pow-le-pow_right (omega arith) h in
-    let a : 10 ^ k ≤ n = above (omega arith) in
-    omega arith))
-
-pub fewest_decimal : (k n : ℕ) → n < 10 ^ 20 → IsDigitCount 10 1 n k → last_digits 10 k n ≡ decimal_of n
-unfolding decimal_of
-fewest_decimal zero n small f = absurd (not-suc-le-zero f.0)
-fewest_decimal (suc k) n small f =
-    let e : suc k - 1 ≡ k = omega arith in
-    let above : 0 < k → 10 ^ k ≤ n = λ h. rw e at (f.2 (omega arith)) in
-    fewest 19 k n (no_more k n small above) f.1 above
+  pub digit_first : (k : ℕ) → k < length held → (10 ≤ n → 0 < k → ⊥)
+      → digits_of k n ++ drop (k + 1) held ≡ drop k (set held k (48 + n % 10))
+  unfolding digits_of
+  digit_first zero below h = rw (drop-set held 0 (48 + n % 10) below)
+  digit_first (suc k) below h =
+      let l : n < 10 = lt_of_not-le (λ g. h g (omega arith)) in
+      let e : n % 10 ≡ n = omega arith in
+      rw (lt-ltb n 10 l, drop-set held (suc k) (48 + n % 10) below, e)

@@ -23,6 +23,7 @@ fn glyph(d: u8) -> u8
     b'A' - 10 + d
 }
 
+#[tactic(auto, unfolding(crate::specs::Text::written))]
 pub fn empty() -> Text
     ensures { written result ≡ [] }
 {
@@ -40,6 +41,7 @@ pub fn of(s: &[u8]) -> Text
 }
 
 impl Text {
+    #[tactic(auto, using(crate::proofs::Laws::byte_put, crate::proofs::Laws::byte_lost))]
     fn byte(mut self, b: u8) -> Text
         ensures { written result ≡ appended (written self) (b ∷ []) }
     {
@@ -51,6 +53,7 @@ impl Text {
         self
     }
 
+    #[tactic(auto, using(crate::proofs::Laws::room, crate::proofs::Laws::twice))]
     pub fn with(self, s: &[u8]) -> Text
         ensures { written result ≡ appended (written self) s.now }
     {
@@ -63,18 +66,21 @@ impl Text {
         t
     }
 
+    #[tactic(auto, using(crate::proofs::Laws::twice), unfolding(crate::specs::Text::hex2_of))]
     pub fn hex2(self, b: u8) -> Text
         ensures { written result ≡ appended (written self) (hex2_of b) }
     {
         self.byte(glyph(b / 16)).byte(glyph(b % 16))
     }
 
+    #[tactic(auto, using(crate::proofs::Laws::twice), unfolding(crate::specs::Text::hex4_of))]
     pub fn hex4(self, w: u16) -> Text
         ensures { written result ≡ appended (written self) (hex4_of w) }
     {
         self.hex2((w / 256) as u8).hex2((w % 256) as u8)
     }
 
+    #[tactic(auto, using(crate::proofs::Laws::twice), unfolding(crate::specs::Text::hex6_of))]
     pub fn hex6(self, a: usize) -> Text
         ensures { written result ≡ appended (written self) (hex6_of a) }
     {
@@ -85,10 +91,18 @@ impl Text {
         ensures { written result ≡ appended (written self) (decimal_of n) }
     {
         let mut digits = [0u8; 20];
-        let k = io::decimal(n, &mut digits);
-        self.with(&digits[..k])
+        let mut at = 19;
+        let mut left = n;
+        while 10 <= left && 0 < at {
+            digits[at] = b'0' + (left % 10) as u8;
+            left /= 10;
+            at -= 1;
+        }
+        digits[at] = b'0' + (left % 10) as u8;
+        self.with(&digits[at..])
     }
 
+    #[tactic(auto, unfolding(crate::specs::Text::bit_of))]
     pub fn bit(self, b: bool) -> Text
         ensures { written result ≡ appended (written self) (bit_of b) }
     {
@@ -98,6 +112,7 @@ impl Text {
         self.byte(b'0')
     }
 
+    #[tactic(auto, unfolding(crate::specs::Text::channel_of))]
     pub fn channel(self, w: Which) -> Text
         ensures { written result ≡ appended (written self) (channel_of w) }
     {
