@@ -105,11 +105,13 @@ memory_of : (l : Place) (ps : List Place) → InMemory ps → In l ps → IsMemo
 memory_of l (Memory a ∷ ps) h (inl e) = subst IsMemory (sym e) tt
 memory_of l (Memory a ∷ ps) h (inr x) = memory_of l ps h x
 memory_of l (Io a ∷ ps) h x = absurd h
+memory_of l [] h x = elim x [ ]
 
 io_of : (l : Place) (ps : List Place) → InIo ps → In l ps → IsIo l
 io_of l (Memory a ∷ ps) h x = absurd h
 io_of l (Io a ∷ ps) h (inl e) = subst IsIo (sym e) tt
 io_of l (Io a ∷ ps) h (inr x) = io_of l ps h x
+io_of l [] h x = elim x [ ]
 
 clash : (l : Place) → IsMemory l → IsIo l → ⊥
 clash (Memory a) x y = y

@@ -1,7 +1,7 @@
 -- The search's promise is not empty: five bytes for 77, of which the third is the first that matches, three times; and five words, of which
 -- the third is the first with 77 in a half. Assumes nothing.
 use mathlib.Core.Path.{◌≡◌, refl, sym, ◌∙◌}
-use mathlib.Core.Logic.{inl}
+use mathlib.Core.Logic.{inl, inr}
 use mathlib.Core.Bool.{Bool, true, false, true≢false}
 use mathlib.Core.List.{[], ◌∷◌}
 use Prim.Native.Nat.{ℕ, zero, suc, ◌+◌, ◌*◌, ◌%◌, ◌≤◌, ◌<◌}
@@ -173,6 +173,8 @@ past j b l x y = go x.2 y
     go (inl e) (inl f) =
         let q = place_inj false ((0 + x.0 * 2) % 16777216) j (sym (place_is Byte (for_77 Two 0).start (record { upper = omega arith; lower = omega arith }) x.0) ∙ sym e ∙ f) in
         omega arith
+    go (inl e) (inr f) = elim f [ ]
+    go (inr e) f = elim e [ ]
 
 pub beside_witness : EndsThird (for_77 Two 0) 5 beside
 unfolding beside enabled_for working call step_of perform_of choice choice_of intent_of turn is_candidate requests interleaves unit_refusal odd_word worked datum_at stored_at moved_of compared comparison stepped_set place_of stepped_on direction_of operation_of request_mode_of look unit_of at with after_unit moved_by some unended
