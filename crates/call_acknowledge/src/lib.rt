@@ -28,6 +28,7 @@ fn is_interrupting(c: Channel) -> bool
 }
 
 // The end that waited is finished; its chain is left pending.
+#[tactic(auto, unfolding(crate::specs::Acknowledge::finished_later))]
 fn finish_later(c: Channel) -> Channel
     ensures { result ≡ finished_later c }
 {
@@ -39,6 +40,7 @@ fn finish_later(c: Channel) -> Channel
     next
 }
 
+#[tactic(auto, using(crate::proofs::CodeLaws::second), unfolding(crate::specs::Acknowledge::acknowledged))]
 fn acknowledge_channel(w: Which, c: Channel) -> Channel
     ensures { result ≡ acknowledged w c }
 {
@@ -57,6 +59,7 @@ fn is_vectorless(master: u16) -> bool
 }
 
 // The save word is answered as it stood before the call.
+#[tactic(auto, unfolding(crate::specs::Acknowledge::acknowledged_at))]
 fn acknowledge_at(w: Which, u: Controller) -> Acknowledged
     ensures { result ≡ acknowledged_at w u }
 {
@@ -74,6 +77,7 @@ fn acknowledge_at(w: Which, u: Controller) -> Acknowledged
     }
 }
 
+#[tactic(auto, unfolding(crate::specs::Acknowledge::acknowledge_of))]
 pub fn acknowledge(u: Controller) -> Acknowledged
     ensures { result ≡ acknowledge_of u }
 {

@@ -21,6 +21,7 @@ pub struct Lined {
 }
 
 // An inactive-to-active change is stored in every mode, masked or not.
+#[tactic(auto, unfolding(crate::specs::Lines::lined))]
 fn with_level(active: bool, mut c: Channel) -> Channel
     ensures { result ≡ lined active c }
 {
@@ -39,6 +40,7 @@ fn with_line(w: Which, active: bool, u: Controller) -> Lined
     }
 }
 
+#[tactic(auto, using(facts::proofs::Look::look_none), unfolding(crate::specs::Lines::lined_at, facts::specs::Look::look))]
 pub fn line(number: u32, active: bool, u: Controller) -> Lined
     ensures { result ≡ lined_at number active u }
 {

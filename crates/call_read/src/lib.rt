@@ -26,6 +26,7 @@ fn keeps_bus(w: Which, bus: Bus) -> bool
 }
 
 // WFB: a candidate that does not keep the bus.
+#[tactic(auto, unfolding(crate::specs::Reading::waits_for_bus))]
 pub fn waits_for_bus(w: Which, u: Controller) -> bool
     ensures { result ≡ waits_for_bus w u }
 {
@@ -34,6 +35,7 @@ pub fn waits_for_bus(w: Which, u: Controller) -> bool
     u.channel(w).is_candidate() & !keeps_bus(w, bus)
 }
 
+#[tactic(auto, unfolding(crate::specs::Reading::register_read))]
 fn register_read(r: Register, c: Channel) -> u16
     ensures { result ≡ register_read r c }
 {
@@ -57,6 +59,7 @@ fn register_read(r: Register, c: Channel) -> u16
     }
 }
 
+#[tactic(auto, unfolding(crate::specs::Reading::read_of))]
 pub fn read(u: Controller) -> Reading
     ensures { result ≡ read_of u }
 {

@@ -11,6 +11,7 @@ use step_bus::{Bus, Chain, Control, Served};
 use word_address::{Address, Set};
 use word_mode::{Mode, Reasons};
 
+#[tactic(auto, unfolding(crate::specs::Reset::reset_of))]
 pub fn reset(u: Controller) -> Controller
     ensures { result ≡ reset_of u }
 {
@@ -83,6 +84,7 @@ fn no_channel() -> Channel
 }
 
 // All zeros, then reset.
+#[tactic(auto, unfolding(crate::specs::Reset::fresh_of))]
 pub fn fresh() -> Controller
     ensures { result ≡ fresh_of }
 {

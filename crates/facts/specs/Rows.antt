@@ -1,5 +1,5 @@
 -- What is done again and again while it goes on: how a loop that counts its turns finds it. Assumes nothing.
-use Rattle.std.specs.Prelude.{ℕ, zero, suc, ◌-◌, Bool, cond}
+use Rattle.std.specs.Prelude.{ℕ, zero, suc, Bool, cond}
 
 -- the last result, and how many there were
 pub record Row (R : Type 0) : Type 0 where

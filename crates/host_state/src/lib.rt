@@ -125,6 +125,7 @@ fn channel_words(c: Channel) -> [u16; 31]
 }
 
 // A channel's words, put in from number `at` on.
+#[tactic(auto, using(crate::proofs::Laws::put_begun, crate::proofs::Laws::put_on, crate::proofs::Laws::put_done))]
 fn put(w: &mut [u16; 72], at: usize, words: &[u16; 31])
     requires { (at ≤ 41) × (length words.now ≡ 31) }
     ensures { w.new ≡ put_from at words.now w.old }
@@ -136,6 +137,7 @@ fn put(w: &mut [u16; 72], at: usize, words: &[u16; 31])
     }
 }
 
+#[tactic(auto, unfolding(crate::specs::Store::put_from, crate::specs::Store::words_of))]
 pub fn store(u: Controller) -> [u16; 72]
     ensures { result ≡ words_of u }
 {
@@ -162,6 +164,7 @@ pub fn store(u: Controller) -> [u16; 72]
 
 // ---- the state of words
 
+#[tactic(auto, using(facts::proofs::Look::look_none), unfolding(facts::specs::Look::look, crate::specs::Load::stage_of))]
 fn stage_of(t: u16, p: Progress) -> Stage
     ensures { result ≡ stage_of t p }
 {
@@ -171,6 +174,7 @@ fn stage_of(t: u16, p: Progress) -> Stage
     }
 }
 
+#[tactic(auto, using(facts::proofs::Look::look_none), unfolding(crate::specs::Load::chain_of, facts::specs::Look::look))]
 fn chain_of(t: u16, s: Stage) -> Chain
     ensures { result ≡ chain_of t s }
 {
@@ -181,6 +185,7 @@ fn chain_of(t: u16, s: Stage) -> Chain
     }
 }
 
+#[tactic(auto, using(facts::proofs::Look::look_none), unfolding(crate::specs::Load::bus_of, facts::specs::Look::look))]
 fn bus_of(t: u16) -> Bus
     ensures { result ≡ bus_of t }
 {
@@ -191,6 +196,7 @@ fn bus_of(t: u16) -> Bus
     }
 }
 
+#[tactic(auto, using(facts::proofs::Look::look_none), unfolding(facts::specs::Look::look, crate::specs::Load::served_of))]
 fn served_of(t: u16) -> Served
     ensures { result ≡ served_of t }
 {
@@ -265,6 +271,7 @@ fn channel_at(w: &[u16; 72], at: usize) -> Channel
     }
 }
 
+#[tactic(auto, unfolding(crate::specs::Load::state_of))]
 pub fn load(w: [u16; 72]) -> Controller
     ensures { result ≡ state_of w }
 {
