@@ -1,5 +1,5 @@
 -- Document 01, "Chaining" and points P1 to P3: a chain makes exactly as many fetches as its table is long. Assumes nothing.
-use Rattle.std.specs.Prelude.{◌≡◌, List, ℕ, ◌-◌}
+use Rattle.std.specs.Prelude.{◌≡◌, List, ℕ}
 use Rattle.facts.specs.Rows.{Row}
 use Rattle.space.specs.declared.Width.TheVariants.{Word}
 use Rattle.space.specs.Space.{value_in}

@@ -2,7 +2,7 @@
 -- step keeps the steps before it. Assumes nothing.
 use mathlib.Core.Path.{◌≡◌, refl, sym, ap, subst}
 use mathlib.Core.Bool.{Bool, true, false, cond, true≢false}
-use mathlib.Core.Logic.{◌⊎◌, inl, inr, ◌≢◌}
+use mathlib.Core.Logic.{◌⊎◌, inl, inr}
 use Prim.Native.Nat.{ℕ, zero, suc}
 use native.Mathlib.Nat.{zero-lt-suc}
 use native.Mathlib.Omega.{arith}
@@ -15,7 +15,7 @@ use Rattle.step.specs.declared.Answer.TheVariants.{Refused, Disabled, Idle, Give
 use Rattle.step.specs.Answers.{paper}
 use Rattle.step.specs.Step.{Outcome, outcome, RunOutcome, says}
 use Rattle.call_run.specs.Run.{stops, next, advanced, run_from, run_of}
-use Rattle.promises.specs.Machine.{left, answer}
+use Rattle.promises.specs.Machine.{left}
 use Rattle.promises.specs.Running.{machine, Whole, Stopped, Run}
 
 -- an answer that does not stop a run is no refusal

@@ -41,7 +41,6 @@ use Rattle.chain.specs.declared.Loaded.{Loaded}
 use Rattle.chain.specs.Chaining.{advanced, goes_on, next_of, is_chain_address, load_reload, load_first_by, load_last_by, load_entry_by, load_entry, load_of, settled_by, fetched_of, dropped_of}
 use Rattle.step.specs.Step.{work_of}
 use Rattle.call_acknowledge.specs.Acknowledge.{finished_later, acknowledged_by, acknowledged}
-use Rattle.call_run.specs.Run.{next}
 use Rattle.promises.specs.WellFormed.{TidyTag, TidySet, Tidy, TidyStage, SettledFlags, ClearFlags, Clear, Software, Sound}
 use Rattle.promises.proofs.WellChannel.{no, settle, stopped, current_anew, chain_anew, mode_anew, loaded_tidy, loaded_flags, request_tidy}
 

@@ -11,7 +11,6 @@ use Rattle.port_write.specs.declared.WritePort.{WritePort}
 use Rattle.port_write.specs.declared.WritePort.TheVariants as writes
 use Rattle.port_read.specs.Readable.{read_port}
 use Rattle.port_write.specs.Writable.{write_port}
-use Rattle.word_command.specs.declared.Command.{Command}
 use Rattle.step.specs.declared.Controller.{Controller}
 use Rattle.step.specs.Controller.{at}
 use Rattle.facts.specs.First.{Exactly}

@@ -5,7 +5,6 @@ use Rattle.unit_laws.specs.Local.{In, places}
 use Rattle.unit_count.specs.Count.{units}
 use Rattle.port.specs.declared.Which.{Which}
 use Rattle.port.specs.Ports.{is_other, other}
-use Rattle.port.specs.declared.Which.TheVariants.{One, Two}
 use Rattle.word_operation.specs.declared.Operation.{Operation}
 use Rattle.word_mode.specs.Mode.{operation_of}
 use Rattle.unit.specs.declared.Moved.{Moved}

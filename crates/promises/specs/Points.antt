@@ -11,7 +11,7 @@ use Rattle.word_address.specs.Address.{stepped_on}
 use Rattle.word_reload.specs.declared.Stage.TheVariants.{Reload}
 use Rattle.unit_accesses.specs.Accesses.{step_after}
 use Rattle.unit.specs.declared.Work.{Work}
-use Rattle.unit.specs.Unit.{compared, moved_of}
+use Rattle.unit.specs.Unit.{moved_of}
 use Rattle.port.specs.declared.Which.TheVariants.{One}
 use Rattle.channel.specs.declared.Channel.{Channel}
 use Rattle.chain_stride.specs.Fetches.{fetches_of}

@@ -2,7 +2,7 @@
 -- halves match exactly where the whole datum equals the pattern so. Assumes nothing.
 use mathlib.Core.Path.{◌≡◌, refl, sym, ap, subst, ◌∙◌}
 use mathlib.Core.Bool.{Bool, true, false, ◌&&◌}
-use Prim.Native.Nat.{ℕ, zero, suc, ◌+◌, ◌-◌, ◌/◌, ◌%◌, ◌^◌, ◌<◌, min, suc-le-suc}
+use Prim.Native.Nat.{ℕ, zero, suc, ◌-◌, ◌/◌, ◌%◌, ◌^◌, ◌<◌, min, suc-le-suc}
 use native.Mathlib.Nat.{not-suc-le-zero, zero-div, zero-min, eq-zero-or-pos}
 use mathlib.Core.Logic.{⊎_elim}
 use native.Mathlib.Omega.{arith}

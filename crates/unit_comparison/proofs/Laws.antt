@@ -5,7 +5,7 @@ use Prim.Native.Nat.{ℕ}
 use lib.Dec.{eqb}
 use Rattle.space.specs.declared.Width.TheVariants.{Byte}
 use Rattle.unit_comparison.specs.declared.Compared.{Compared}
-use Rattle.unit_comparison.specs.Comparison.{both_halves, is_hit, meets, comparison}
+use Rattle.unit_comparison.specs.Comparison.{both_halves, meets, comparison}
 use Rattle.unit_comparison.proofs.Bitwise.{whole}
 
 -- of two halves that are told alike both match, and so does either

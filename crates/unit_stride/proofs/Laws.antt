@@ -7,7 +7,6 @@ use Rattle.facts.specs.Rows.{Row, in_a_row}
 use Rattle.space.specs.Space.{Spaces}
 use Rattle.space_board.specs.declared.Board.{Board}
 use Rattle.port.specs.declared.Which.{Which}
-use Rattle.port.specs.Ports.{other}
 use Rattle.unit.specs.declared.Work.{Work}
 use Rattle.unit.specs.Unit.{Worked, worked}
 use Rattle.unit_stride.specs.Units.{onward, follows, moved_on, UnitDone, onwards}
