@@ -24,6 +24,7 @@ pub struct Written {
     pub answer: Writing,
 }
 
+#[tactic(auto, unfolding(crate::specs::Commands::is_busy))]
 pub fn is_busy(u: Controller) -> bool
     ensures { result ≡ is_busy u }
 {
@@ -126,6 +127,7 @@ fn is_reset(x: Command) -> bool
     }
 }
 
+#[tactic(auto, unfolding(crate::specs::Commands::commanded))]
 pub fn obey(x: Command, w: Which, u: Controller) -> Written
     ensures { result ≡ commanded x w u }
 {

@@ -80,6 +80,7 @@ fn would_request_unmasked(c: Channel) -> bool
     channel_request::is_requesting(c.mode.with_mask(false), c.line)
 }
 
+#[tactic(auto, using(facts::proofs::Look::look_none), unfolding(crate::specs::Causes::cause_of, facts::specs::Look::look))]
 fn cause_of(refusal: u8) -> Cause
     ensures { result ≡ cause_of refusal }
 {
@@ -104,6 +105,7 @@ fn turn_cause(w: Which, u: Controller) -> Cause
 }
 
 // From the odd chain address on, for a fetch.
+#[tactic(auto, using(crate::proofs::CodeLaws::unrefused, crate::proofs::CodeLaws::refused))]
 fn fetch_cause(stage: Stage, w: Which, board: Board, u: Controller) -> Cause
     ensures { result ≡ first_or Cause.NothingWrong (refusal_causes (Fetch w stage) w (facts_of u) (faults_of board u)) }
 {
@@ -115,6 +117,7 @@ fn fetch_cause(stage: Stage, w: Which, board: Board, u: Controller) -> Cause
 }
 
 // From the operation on, for a unit.
+#[tactic(auto, using(crate::proofs::CodeLaws::unrefused, crate::proofs::CodeLaws::refused), unfolding(unit::specs::Unit::unit_refusal))]
 fn unit_cause(w: Which, board: Board, u: Controller) -> Cause
     ensures { result ≡ first_or Cause.NothingWrong (refusal_causes (Unit w) w (facts_of u) (faults_of board u)) }
 {
@@ -127,6 +130,7 @@ fn unit_cause(w: Which, board: Board, u: Controller) -> Cause
 }
 
 // From CA on, for a unit.
+#[tactic(auto, using(crate::proofs::CodeLaws::asks))]
 fn request_cause(w: Which, board: Board, u: Controller) -> Cause
     ensures { result ≡ first_or Cause.NothingWrong (request_causes (Unit w) w (at w u) (facts_of u) (faults_of board u)) }
 {
@@ -150,6 +154,7 @@ fn request_cause(w: Which, board: Board, u: Controller) -> Cause
 }
 
 // Of a channel without a chain under way: its pending chain, or a unit.
+#[tactic(auto, using(crate::proofs::CodeLaws::would))]
 fn beginning_cause(w: Which, board: Board, u: Controller) -> Cause
     ensures { result ≡ first_or Cause.NothingWrong (own_causes (beginning (at w u).pending w) w (at w u) (facts_of u) (faults_of board u)) }
 {
@@ -159,6 +164,7 @@ fn beginning_cause(w: Which, board: Board, u: Controller) -> Cause
     request_cause(w, board, u)
 }
 
+#[tactic(auto, using(crate::proofs::CodeLaws::none, crate::proofs::CodeLaws::of_the_other, crate::proofs::CodeLaws::of_its_own))]
 fn own_cause(w: Which, board: Board, u: Controller) -> Cause
     ensures { result ≡ first_or Cause.NothingWrong (own_causes (own_by u.control.chain (at w u).pending w) w (at w u) (facts_of u) (faults_of board u)) }
 {
@@ -175,6 +181,7 @@ fn own_cause(w: Which, board: Board, u: Controller) -> Cause
     }
 }
 
+#[tactic(auto, using(crate::proofs::CodeLaws::passes), unfolding(crate::specs::Causes::why_of))]
 fn first_cause(w: Which, board: Board, u: Controller) -> Cause
     ensures { result ≡ why_of board w u }
 {
@@ -196,6 +203,7 @@ fn first_cause(w: Which, board: Board, u: Controller) -> Cause
     own_cause(w, board, u)
 }
 
+#[tactic(auto, using(facts::proofs::Look::look_none), unfolding(facts::specs::Look::look, crate::specs::Causes::why_at))]
 pub fn why(number: u32, board: Board, u: Controller) -> WhyAnswer
     ensures { result ≡ why_at number board u }
 {

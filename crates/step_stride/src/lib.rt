@@ -19,6 +19,7 @@ use unit_stride::Pair;
 use word_reload::Stage;
 
 // Words of a chain, or its end by EOP.
+#[tactic(auto, using(crate::proofs::CodeLaws::fetches), unfolding(step::specs::Fetching::drop_of))]
 fn fetch(u: Controller, w: Which, stage: Stage, left: u32, eop: bool, memory: &[u8]) -> Ran
     ensures { result ≡ fetches_by eop w stage left u memory.now }
 {
@@ -59,6 +60,7 @@ fn take_turns(u: Controller, w: Which) -> bool
 }
 
 // The registers that the channels' units work on, and no whole channel, since a copy costs.
+#[tactic(auto, unfolding(step::specs::Controller::at))]
 fn pair(u: Controller, w: Which) -> Pair
     ensures { result ≡ pair_of w u }
 {
@@ -79,6 +81,7 @@ fn pair(u: Controller, w: Which) -> Pair
 }
 
 // A channel that rests has the registers that its latest unit left.
+#[tactic(auto, unfolding(step::specs::Controller::at, step::specs::Controller::with))]
 fn rest(mut u: Controller, w: Which, k: Work) -> Controller
     ensures { result ≡ rested w k u }
 {
@@ -143,6 +146,7 @@ fn units(u: Controller, w: Which, left: u32, eop: bool, memory: &mut [u8], io: &
     }
 }
 
+#[tactic(auto, unfolding(step::specs::Step::hold_of))]
 fn hold(u: Controller, w: Which, eop: bool) -> Ran
     ensures { result ≡ once (hold_of w eop u) }
 {
@@ -161,6 +165,7 @@ fn hold(u: Controller, w: Which, eop: bool) -> Ran
 }
 
 // What was chosen is done, and what follows it.
+#[tactic(auto, unfolding(step::specs::Step::perform_of, crate::specs::Stride::stride_by))]
 fn perform(
     u: Controller,
     choice: Choice,
@@ -204,6 +209,7 @@ fn perform(
 }
 
 // Up to so many steps at once.
+#[tactic(auto, unfolding(crate::specs::Stride::stride_of))]
 pub fn stride(u: Controller, left: u32, eop: bool, memory: &mut [u8], io: &mut [u8]) -> Ran
     ensures { ran_as result (spaces memory.new io.new) ≡ stride_of left eop u (spaces memory.old io.old) }
 {
