@@ -53,6 +53,7 @@ pub fn advance(u: Controller, budget: u32, eop: bool, memory: &mut [u8], io: &mu
 }
 
 // Up to 65,536 steps without EOP.
+#[tactic(auto, using(crate::proofs::CodeLaws::whole, crate::proofs::CodeLaws::refused))]
 pub fn run(u: Controller, budget: u32, memory: &mut [u8], io: &mut [u8]) -> Ran
     ensures { ran_as result (spaces memory.new io.new) ≡ run_of budget u (spaces memory.old io.old) }
 {
