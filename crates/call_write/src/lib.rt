@@ -11,6 +11,7 @@ use port::{Register, Which};
 use port_write::WritePort;
 use step::Controller;
 
+#[tactic(auto, unfolding(crate::specs::Writing::chain_written, channel_loading::specs::Loading::loaded))]
 fn write_chain(second: bool, w: u16, c: Channel) -> Channel
     ensures { result ≡ chain_written second w c }
 {
@@ -19,6 +20,7 @@ fn write_chain(second: bool, w: u16, c: Channel) -> Channel
     next
 }
 
+#[tactic(auto, unfolding(channel_loading::specs::Loading::loaded, crate::specs::Writing::register_written))]
 fn register_written(r: Register, w: u16, c: Channel) -> Channel
     ensures { result ≡ register_written r w c }
 {
@@ -43,6 +45,7 @@ fn register_written(r: Register, w: u16, c: Channel) -> Channel
 }
 
 // An arm for each channel, its record copied first: so the compiler moves whole records, and chooses no field's place anew.
+#[tactic(auto, unfolding(step::specs::Controller::at, step::specs::Controller::with))]
 fn write_register(k: Which, r: Register, w: u16, mut u: Controller) -> Written
     ensures { result ≡ write_by (Of k r) w u }
 {
@@ -73,6 +76,7 @@ fn write_master(w: u16, mut u: Controller) -> Written
     call_command::take(u)
 }
 
+#[tactic(auto, unfolding(crate::specs::Writing::write_of))]
 pub fn write(w: u16, u: Controller) -> Written
     ensures { result ≡ write_of w u }
 {
