@@ -1,4 +1,4 @@
-// The host's calls for programs in C and Rust, over the state as 72 words that the caller lends.
+// The host's calls, over the state as 72 words that the caller lends. host_c exports them.
 #![tactic(auto)]
 
 ghost use Rattle.std.specs.Prelude.{◌≡◌};
@@ -27,15 +27,13 @@ fn store_unless_refused(state: &mut [u16; 72], number: u64, next: Controller)
     *state = host_state::store(next);
 }
 
-#[unsafe(no_mangle)]
-pub extern "C" fn einflyga_fresh(state: &mut [u16; 72])
+pub fn einflyga_fresh(state: &mut [u16; 72])
     ensures { state.new ≡ fresh_left }
 {
     *state = host_state::store(call_reset::fresh());
 }
 
-#[unsafe(no_mangle)]
-pub extern "C" fn einflyga_reset(state: &mut [u16; 72])
+pub fn einflyga_reset(state: &mut [u16; 72])
     ensures { state.new ≡ reset_left state.old }
 {
     let entry = *state;
@@ -43,8 +41,7 @@ pub extern "C" fn einflyga_reset(state: &mut [u16; 72])
     *state = host_state::store(call_reset::reset(u));
 }
 
-#[unsafe(no_mangle)]
-pub extern "C" fn einflyga_write_pointer(state: &mut [u16; 72], pointer: u16)
+pub fn einflyga_write_pointer(state: &mut [u16; 72], pointer: u16)
     ensures { state.new ≡ pointed_left pointer state.old }
 {
     let entry = *state;
@@ -52,16 +49,14 @@ pub extern "C" fn einflyga_write_pointer(state: &mut [u16; 72], pointer: u16)
     *state = host_state::store(call_pointer::write_pointer(u, pointer));
 }
 
-#[unsafe(no_mangle)]
-pub extern "C" fn einflyga_read_pointer(state: &[u16; 72]) -> u16
+pub fn einflyga_read_pointer(state: &[u16; 72]) -> u16
     ensures { result ≡ (state_of state.now).pointer }
 {
     let entry = *state;
     call_pointer::read_pointer(host_state::load(entry))
 }
 
-#[unsafe(no_mangle)]
-pub extern "C" fn einflyga_write(state: &mut [u16; 72], value: u16) -> u32
+pub fn einflyga_write(state: &mut [u16; 72], value: u16) -> u32
     ensures { returned result state.new ≡ written_left value state.old }
 {
     let entry = *state;
@@ -74,16 +69,14 @@ pub extern "C" fn einflyga_write(state: &mut [u16; 72], value: u16) -> u32
     number
 }
 
-#[unsafe(no_mangle)]
-pub extern "C" fn einflyga_read(state: &[u16; 72]) -> u32
+pub fn einflyga_read(state: &[u16; 72]) -> u32
     ensures { result ≡ read_number (read_of (state_of state.now)) }
 {
     let entry = *state;
     host_answer::read_number(call_read::read(host_state::load(entry)))
 }
 
-#[unsafe(no_mangle)]
-pub extern "C" fn einflyga_line(state: &mut [u16; 72], channel: u32, active: bool) -> u32
+pub fn einflyga_line(state: &mut [u16; 72], channel: u32, active: bool) -> u32
     ensures { returned result state.new ≡ lined_left channel active state.old }
 {
     let entry = *state;
@@ -96,8 +89,7 @@ pub extern "C" fn einflyga_line(state: &mut [u16; 72], channel: u32, active: boo
     number
 }
 
-#[unsafe(no_mangle)]
-pub extern "C" fn einflyga_acknowledge(state: &mut [u16; 72]) -> u32
+pub fn einflyga_acknowledge(state: &mut [u16; 72]) -> u32
     ensures { returned result state.new ≡ acknowledged_left state.old }
 {
     let entry = *state;
@@ -110,13 +102,7 @@ pub extern "C" fn einflyga_acknowledge(state: &mut [u16; 72]) -> u32
     number
 }
 
-#[unsafe(no_mangle)]
-pub extern "C" fn einflyga_step(
-    state: &mut [u16; 72],
-    eop: bool,
-    memory: &mut [u8],
-    io: &mut [u8],
-) -> u32
+pub fn einflyga_step(state: &mut [u16; 72], eop: bool, memory: &mut [u8], io: &mut [u8]) -> u32
     ensures { crossed result state.new (spaces memory.new io.new) ≡ stepped_left eop state.old (spaces memory.old io.old) }
 {
     let entry = *state;
@@ -129,13 +115,7 @@ pub extern "C" fn einflyga_step(
     number
 }
 
-#[unsafe(no_mangle)]
-pub extern "C" fn einflyga_run(
-    state: &mut [u16; 72],
-    budget: u32,
-    memory: &mut [u8],
-    io: &mut [u8],
-) -> u64
+pub fn einflyga_run(state: &mut [u16; 72], budget: u32, memory: &mut [u8], io: &mut [u8]) -> u64
     ensures { crossed result state.new (spaces memory.new io.new) ≡ ran_left budget state.old (spaces memory.old io.old) }
 {
     let entry = *state;
@@ -149,8 +129,7 @@ pub extern "C" fn einflyga_run(
 }
 
 // A look: of the spaces it asks for the lengths alone.
-#[unsafe(no_mangle)]
-pub extern "C" fn einflyga_why(state: &[u16; 72], channel: u32, memory: usize, io: usize) -> u32
+pub fn einflyga_why(state: &[u16; 72], channel: u32, memory: usize, io: usize) -> u32
     ensures { result ≡ why_answered channel (record { memory = memory; io = io }) state.now }
 {
     let entry = *state;
