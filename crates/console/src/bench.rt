@@ -9,7 +9,9 @@ ghost use Rattle.console.specs.Calls.{call_of, leaves, advance_of};
 
 use crate::print;
 use console_line::{Advance, Input, LentSpace, RegisterCall, Request};
+use std::io;
 use step::Controller;
+use text_print::Text;
 
 // The controller, and how many bytes of each space are lent.
 #[derive(Clone, Copy)]
@@ -66,214 +68,252 @@ fn store(s: &mut [u8], at: usize, n: usize, bytes: &[u8; 64]) -> usize {
     stored
 }
 
-fn show(s: &[u8], at: u32, n: u32) {
+fn show(rt: &impl Print, s: &[u8], at: u32, n: u32) -> io::Result<()> {
     let from = at as usize;
     let shown = inside(from, n as usize, s.len());
     let mut i = 0;
     while i < shown {
         let k = least(shown - i, 16);
         let start = from + i;
-        print::line(console_message::row(start, &s[start..start + k]));
+        print::line(rt, console_message::row(start, &s[start..start + k]))?;
         i += 16;
     }
+    Ok(())
 }
 
 // ---- the calls
 
-fn write(w: u16, u: Controller) -> Controller
+// Each leaves the controller, and puts the line that tells its answer in `told`.
+
+fn write(w: u16, u: Controller, told: &mut Text) -> Controller
     ensures { result ≡ (write_of w u).state }
 {
     let written = call_write::write(w, u);
     let answer = written.answer;
-    print::line(console_answer::write(answer));
+    *told = console_answer::write(answer);
     written.state
 }
 
-fn read(u: Controller) {
-    print::line(console_answer::read(call_read::read(u)));
+fn read(u: Controller) -> Text {
+    console_answer::read(call_read::read(u))
 }
 
-fn line(c: u8, active: bool, u: Controller) -> Controller
+fn line(c: u8, active: bool, u: Controller, told: &mut Text) -> Controller
     ensures { result ≡ (lined_at c active u).state }
 {
     let lined = call_line::line(c as u32, active, u);
     let answer = lined.answer;
-    print::line(console_answer::line(c, active, answer));
+    *told = console_answer::line(c, active, answer);
     lined.state
 }
 
-fn acknowledge(u: Controller) -> Controller
+fn acknowledge(u: Controller, told: &mut Text) -> Controller
     ensures { result ≡ (acknowledge_of u).state }
 {
     let given = call_acknowledge::acknowledge(u);
     let answer = given.answer;
-    print::line(console_answer::acknowledge(answer));
+    *told = console_answer::acknowledge(answer);
     given.state
 }
 
 // The controller is left as the model's definitions say.
-fn make(call: RegisterCall, u: Controller) -> Controller
+fn make(call: RegisterCall, u: Controller, told: &mut Text) -> Controller
     ensures { result ≡ call_of call u }
 {
     match call {
         RegisterCall::Reset => {
-            print::line(console_message::reset());
+            *told = console_message::reset();
             call_reset::reset(u)
         }
         RegisterCall::WritePointer(w) => {
             let next = call_pointer::write_pointer(u, w);
-            print::line(console_message::pointer(next.pointer));
+            *told = console_message::pointer(next.pointer);
             next
         }
         RegisterCall::ReadPointer => {
-            print::line(console_message::pointer(u.pointer));
+            *told = console_message::pointer(u.pointer);
             u
         }
-        RegisterCall::Write(w) => write(w, u),
+        RegisterCall::Write(w) => write(w, u, told),
         RegisterCall::Read => {
-            read(u);
+            *told = read(u);
             u
         }
-        RegisterCall::Set(p, w) => write(w, call_pointer::write_pointer(u, p)),
+        RegisterCall::Set(p, w) => write(w, call_pointer::write_pointer(u, p), told),
         RegisterCall::Get(p) => {
             let next = call_pointer::write_pointer(u, p);
-            read(next);
+            *told = read(next);
             next
         }
-        RegisterCall::Line(c, active) => line(c, active, u),
-        RegisterCall::Acknowledge => acknowledge(u),
+        RegisterCall::Line(c, active) => line(c, active, u, told),
+        RegisterCall::Acknowledge => acknowledge(u, told),
     }
 }
 
 // So are the controller and both spaces.
-fn go(advance: Advance, u: Controller, memory: &mut [u8], io: &mut [u8]) -> Controller
+fn go(
+    advance: Advance,
+    u: Controller,
+    memory: &mut [u8],
+    io: &mut [u8],
+    told: &mut Text,
+) -> Controller
     ensures { leaves result (spaces memory.new io.new) ≡ advance_of advance u (spaces memory.old io.old) }
 {
     match advance {
         Advance::Step(eop) => {
             let stepped = u.step(eop, memory, io);
             let a = stepped.answer;
-            print::line(console_answer::step(a));
+            *told = console_answer::step(a);
             stepped.state
         }
         Advance::Run(n) => {
             let ran = call_run::run(u, n, memory, io);
             let a = ran.answer;
-            print::line(console_answer::run(ran.steps, a));
+            *told = console_answer::run(ran.steps, a);
             ran.state
         }
     }
 }
 
 // A look: nothing changes.
-fn why(c: u8, u: Controller, memory: &[u8], io: &[u8]) {
+fn why(c: u8, u: Controller, memory: &[u8], io: &[u8]) -> Text {
     let answer = standstill::why(c as u32, space_board::lends(memory, io), u);
-    print::line(console_answer::why(c, answer));
+    console_answer::why(c, answer)
 }
 
 // ---- a line
 
-fn poke(space: LentSpace, at: u32, n: usize, bytes: &[u8; 64], memory: &mut [u8], io: &mut [u8]) {
+fn poke(
+    space: LentSpace,
+    at: u32,
+    n: usize,
+    bytes: &[u8; 64],
+    memory: &mut [u8],
+    io: &mut [u8],
+) -> Text {
     match space {
-        LentSpace::Memory => print::line(console_message::poked(store(
-            memory,
-            at as usize,
-            n,
-            bytes,
-        ))),
-        LentSpace::Io => print::line(console_message::poked(store(io, at as usize, n, bytes))),
+        LentSpace::Memory => console_message::poked(store(memory, at as usize, n, bytes)),
+        LentSpace::Io => console_message::poked(store(io, at as usize, n, bytes)),
     }
 }
 
-fn peek(space: LentSpace, at: u32, n: u32, memory: &[u8], io: &[u8]) {
+fn peek(
+    rt: &impl Print,
+    space: LentSpace,
+    at: u32,
+    n: u32,
+    memory: &[u8],
+    io: &[u8],
+) -> io::Result<()> {
     match space {
-        LentSpace::Memory => show(memory, at, n),
-        LentSpace::Io => show(io, at, n),
+        LentSpace::Memory => show(rt, memory, at, n),
+        LentSpace::Io => show(rt, io, at, n),
     }
 }
 
 // What is told of a line that makes no call and reaches no space.
-fn tell(request: Request, number: u64, u: Controller) {
+fn tell(rt: &impl Print, request: Request, number: u64, u: Controller) -> io::Result<()> {
     match request {
-        Request::Unreadable => print::line(console_message::not_understood(number)),
-        Request::TooLarge => print::line(console_message::too_large(number)),
-        Request::State => print::state(u),
-        Request::Help => print::help(),
-        _ => {}
+        Request::Unreadable => print::line(rt, console_message::not_understood(number)),
+        Request::TooLarge => print::line(rt, console_message::too_large(number)),
+        Request::State => print::state(rt, u),
+        Request::Help => print::help(rt),
+        _ => Ok(()),
     }
 }
 
 // What a line asks, over the bytes that are lent.
 fn serve(
+    rt: &impl Print,
     request: Request,
     number: u64,
     bytes: &[u8; 64],
     u: Controller,
     memory: &mut [u8],
     io: &mut [u8],
-) -> Controller {
+) -> io::Result<Controller> {
     match request {
-        Request::Make(call) => make(call, u),
-        Request::Advance(advance) => go(advance, u, memory, io),
+        Request::Make(call) => {
+            let mut told = text_print::empty();
+            let next = make(call, u, &mut told);
+            print::line(rt, told)?;
+            Ok(next)
+        }
+        Request::Advance(advance) => {
+            let mut told = text_print::empty();
+            let next = go(advance, u, memory, io, &mut told);
+            print::line(rt, told)?;
+            Ok(next)
+        }
         Request::Why(c) => {
-            why(c, u, memory, io);
-            u
+            print::line(rt, why(c, u, memory, io))?;
+            Ok(u)
         }
         Request::Poke(space, at, n) => {
-            poke(space, at, n, bytes, memory, io);
-            u
+            print::line(rt, poke(space, at, n, bytes, memory, io))?;
+            Ok(u)
         }
         Request::Peek(space, at, n) => {
-            peek(space, at, n, memory, io);
-            u
+            peek(rt, space, at, n, memory, io)?;
+            Ok(u)
         }
         _ => {
-            tell(request, number, u);
-            u
+            tell(rt, request, number, u)?;
+            Ok(u)
         }
     }
 }
 
-fn lend(space: LentSpace, n: u32, b: Bench, memory: &mut [u8], io: &mut [u8]) -> Bench {
-    print::line(console_message::lent(space, n));
+fn lend(
+    rt: &impl Print,
+    space: LentSpace,
+    n: u32,
+    b: Bench,
+    memory: &mut [u8],
+    io: &mut [u8],
+) -> io::Result<Bench> {
+    print::line(rt, console_message::lent(space, n))?;
     match space {
         LentSpace::Memory => {
             clear(n as usize, memory);
-            Bench { memory: n, ..b }
+            Ok(Bench { memory: n, ..b })
         }
         LentSpace::Io => {
             clear(n as usize, io);
-            Bench { io: n, ..b }
+            Ok(Bench { io: n, ..b })
         }
     }
 }
 
 // A line is carried out. No more is lent than there is.
 pub fn obey(
+    rt: &impl Print,
     input: Input,
     number: u64,
     bytes: &[u8; 64],
     b: Bench,
     memory: &mut [u8],
     io: &mut [u8],
-) -> Bench {
+) -> io::Result<Bench> {
     match input {
-        Input::Lend(space, n) => lend(space, n, b, memory, io),
+        Input::Lend(space, n) => lend(rt, space, n, b, memory, io),
         Input::Ask(request) => {
             let m = least(b.memory as usize, memory.len());
             let i = least(b.io as usize, io.len());
             let next = serve(
+                rt,
                 request,
                 number,
                 bytes,
                 b.controller,
                 &mut memory[0..m],
                 &mut io[0..i],
-            );
-            Bench {
+            )?;
+            Ok(Bench {
                 controller: next,
                 ..b
-            }
+            })
         }
     }
 }

@@ -1,46 +1,48 @@
 // What is printed, a line at a time.
-use libc::STDOUT_FILENO;
 use port::Which;
+use std::io;
 use step::Controller;
 use text_print::Text;
 
-fn write_first(n: usize, s: &[u8]) {
+fn write_first(rt: &impl Print, n: usize, s: &[u8]) -> io::Result<()> {
     if n <= s.len() {
-        io::write_all(STDOUT_FILENO, &s[0..n]);
+        rt.write_all(&s[0..n])?;
     }
+    Ok(())
 }
 
 // The line is written whole.
-pub fn line(t: Text) {
+pub fn line(rt: &impl Print, t: Text) -> io::Result<()> {
     let t = t.with(b"\n");
     let bytes = t.bytes;
-    write_first(t.length, &bytes);
+    write_first(rt, t.length, &bytes)
 }
 
-fn channel_state(w: Which, u: Controller) {
-    line(console_state::current(w, u));
-    line(console_state::base(w, u));
-    line(console_state::compared(w, u));
-    line(console_state::modes(w, u));
-    line(console_state::status(w, u));
+fn channel_state(rt: &impl Print, w: Which, u: Controller) -> io::Result<()> {
+    line(rt, console_state::current(w, u))?;
+    line(rt, console_state::base(w, u))?;
+    line(rt, console_state::compared(w, u))?;
+    line(rt, console_state::modes(w, u))?;
+    line(rt, console_state::status(w, u))
 }
 
-pub fn state(u: Controller) {
-    line(console_state::controller(u));
-    channel_state(Which::One, u);
-    channel_state(Which::Two, u);
+pub fn state(rt: &impl Print, u: Controller) -> io::Result<()> {
+    line(rt, console_state::controller(u))?;
+    channel_state(rt, Which::One, u)?;
+    channel_state(rt, Which::Two, u)
 }
 
-pub fn help() {
+pub fn help(rt: &impl Print) -> io::Result<()> {
     let mut n: u8 = 0;
     while n < 17 {
-        line(console_message::help(n));
+        line(rt, console_message::help(n))?;
         n += 1;
     }
+    Ok(())
 }
 
-pub fn cannot_open(name: &[u8]) {
-    io::write_all(STDOUT_FILENO, b"error cannot open ");
-    io::write_all(STDOUT_FILENO, name);
-    io::write_all(STDOUT_FILENO, b"\n");
+pub fn cannot_open(rt: &impl Print, name: &[u8]) -> io::Result<()> {
+    rt.write_all(b"error cannot open ")?;
+    rt.write_all(name)?;
+    rt.write_all(b"\n")
 }

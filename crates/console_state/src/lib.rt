@@ -15,6 +15,7 @@ use word_reload::{Progress, Stage};
 
 // ---- the controller's
 
+#[tactic(auto, unfolding(crate::specs::State::served_of))]
 fn served_last(t: Text, s: Served) -> Text
     ensures { written result ≡ appended (written t) (served_of s) }
 {
@@ -24,6 +25,7 @@ fn served_last(t: Text, s: Served) -> Text
     }
 }
 
+#[tactic(auto, unfolding(crate::specs::State::bus_of))]
 fn keeper(t: Text, b: Bus) -> Text
     ensures { written result ≡ appended (written t) (bus_of b) }
 {
@@ -54,6 +56,7 @@ fn words_left(p: Progress) -> u32
     all - gone
 }
 
+#[tactic(auto, using(text_print::proofs::Laws::twice), unfolding(crate::specs::State::stage_of))]
 fn stage(t: Text, s: Stage) -> Text
     ensures { written result ≡ appended (written t) (stage_of s) }
 {
@@ -63,6 +66,7 @@ fn stage(t: Text, s: Stage) -> Text
     }
 }
 
+#[tactic(auto, using(text_print::proofs::Laws::twice), unfolding(crate::specs::State::chain_of))]
 fn chain_under_way(t: Text, c: Chain) -> Text
     ensures { written result ≡ appended (written t) (chain_of c) }
 {
@@ -72,6 +76,7 @@ fn chain_under_way(t: Text, c: Chain) -> Text
     }
 }
 
+#[tactic(auto, using(text_print::proofs::Laws::twice), unfolding(crate::specs::State::words_text))]
 fn words(u: Controller) -> Text
     ensures { written result ≡ line (words_text u) }
 {
@@ -100,18 +105,21 @@ fn line_of(w: Which) -> Text
     text_print::empty().channel(w)
 }
 
+#[tactic(auto, using(text_print::proofs::Laws::twice), unfolding(crate::specs::State::two_words))]
 fn two_words(t: Text, upper: u16, lower: u16) -> Text
     ensures { written result ≡ appended (written t) (two_words upper lower) }
 {
     t.hex4(upper).with(b" ").hex4(lower)
 }
 
+#[tactic(auto, using(text_print::proofs::Laws::twice), unfolding(crate::specs::State::address_of))]
 fn register(t: Text, name: &[u8], a: Address) -> Text
     ensures { written result ≡ appended (written t) (name.now ++ address_of a) }
 {
     two_words(t.with(name), a.upper, a.lower)
 }
 
+#[tactic(auto, using(text_print::proofs::Laws::twice), unfolding(crate::specs::State::set_of))]
 fn register_set(t: Text, s: Set) -> Text
     ensures { written result ≡ appended (written t) (set_of s) }
 {
@@ -119,12 +127,14 @@ fn register_set(t: Text, s: Set) -> Text
     t.with(b" count ").hex4(s.count)
 }
 
+#[tactic(auto, using(text_print::proofs::Laws::twice), unfolding(crate::specs::State::current_of))]
 pub fn current(w: Which, u: Controller) -> Text
     ensures { written result ≡ line (current_of w u) }
 {
     register_set(line_of(w), u.channel(w).current)
 }
 
+#[tactic(auto, using(text_print::proofs::Laws::twice), unfolding(crate::specs::State::base_of))]
 pub fn base(w: Which, u: Controller) -> Text
     ensures { written result ≡ line (base_of w u) }
 {
@@ -141,6 +151,7 @@ pub fn compared(w: Which, u: Controller) -> Text
     t.with(b" save ").hex4(c.interrupt.save)
 }
 
+#[tactic(auto, using(text_print::proofs::Laws::twice), unfolding(crate::specs::State::modes_of))]
 pub fn modes(w: Which, u: Controller) -> Text
     ensures { written result ≡ line (modes_of w u) }
 {

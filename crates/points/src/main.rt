@@ -6,9 +6,9 @@
 use call_command::{Writing, Written};
 use call_read::Reading;
 use channel::Channel;
-use libc::STDOUT_FILENO;
 use port::Which;
 use space::Width;
+use std::io;
 use step::{Answer, Controller, Ran};
 use word_address::Address;
 
@@ -39,13 +39,14 @@ const BYTES: [u16; 8] = [
     0x1212, 0x1200, 0x1234, 0x1200, 0x1234, 0x3400, 0x1234, 0x5600,
 ];
 
-fn say(what: &[u8], right: bool) {
-    io::write_all(STDOUT_FILENO, what);
+fn say(rt: &impl Print, what: &[u8], right: bool) -> io::Result<()> {
+    rt.write_all(what)?;
     if right {
-        io::write_all(STDOUT_FILENO, b": as it should be\n");
+        rt.write_all(b": as it should be\n")?;
     } else {
-        io::write_all(STDOUT_FILENO, b": WRONG\n");
+        rt.write_all(b": WRONG\n")?;
     }
+    Ok(())
 }
 
 fn write_at(u: Controller, pointer: u16, w: u16) -> Written {
@@ -221,20 +222,23 @@ fn store_tables(memory: &mut [u8], io: &mut [u8]) {
     store_words(memory, io, false, 0x1F00, &FRAME);
 }
 
-fn say_what_runs(memory: &mut [u8], io: &mut [u8]) {
+fn say_what_runs(rt: &impl Print, memory: &mut [u8], io: &mut [u8]) -> io::Result<()> {
     store_tables(memory, io);
     say(
+        rt,
         b"count 2 with the match second ends with TC and MC",
         is_match_right(memory, io),
-    );
+    )?;
     say(
+        rt,
         b"Figures 23 and 24: the chain loads what the table says",
         is_chain_right(memory, io),
-    );
+    )?;
     say(
+        rt,
         b"Figures 23 and 24: the block arrives and ends by TC",
         is_block_right(memory, io),
-    );
+    )
 }
 
 fn status_of(u: Controller) -> u16 {
@@ -268,64 +272,80 @@ fn status_after(operation: u16, control: u16, pattern: u16, datum: u16) -> u16 {
     status_of(r.state)
 }
 
-fn say_flag(status: u16, bit: u16, name: &[u8]) {
+fn say_flag(rt: &impl Print, status: u16, bit: u16, name: &[u8]) -> io::Result<()> {
     if status & bit != 0 {
-        io::write_all(STDOUT_FILENO, name);
+        rt.write_all(name)?;
     }
+    Ok(())
 }
 
-fn say_told(halves: &[u8], status: u16) {
-    io::write_all(STDOUT_FILENO, halves);
-    say_flag(status, 0x10, b" MCH");
-    say_flag(status, 0x08, b" MCL");
-    say_flag(status, 0x04, b" MC");
+fn say_told(rt: &impl Print, halves: &[u8], status: u16) -> io::Result<()> {
+    rt.write_all(halves)?;
+    say_flag(rt, status, 0x10, b" MCH")?;
+    say_flag(rt, status, 0x08, b" MCL")?;
+    say_flag(rt, status, 0x04, b" MC")
 }
 
-fn say_digit(n: u16) {
+fn say_digit(rt: &impl Print, n: u16) -> io::Result<()> {
     let digit = [48 + (n % 10) as u8];
-    io::write_all(STDOUT_FILENO, &digit);
+    rt.write_all(&digit)
 }
 
 // A line: what is told of each pair under one match control.
-fn say_compared(name: &[u8], operation: u16, control: u16, pairs: [u16; 8]) {
-    io::write_all(STDOUT_FILENO, name);
-    io::write_all(STDOUT_FILENO, b", match control ");
-    say_digit(control);
+fn say_compared(
+    rt: &impl Print,
+    name: &[u8],
+    operation: u16,
+    control: u16,
+    pairs: [u16; 8],
+) -> io::Result<()> {
+    rt.write_all(name)?;
+    rt.write_all(b", match control ")?;
+    say_digit(rt, control)?;
     say_told(
+        rt,
         b": both",
         status_after(operation, control, pairs[0], pairs[1]),
-    );
+    )?;
     say_told(
+        rt,
         b"; high",
         status_after(operation, control, pairs[2], pairs[3]),
-    );
+    )?;
     say_told(
+        rt,
         b"; low",
         status_after(operation, control, pairs[4], pairs[5]),
-    );
+    )?;
     say_told(
+        rt,
         b"; neither",
         status_after(operation, control, pairs[6], pairs[7]),
-    );
-    io::write_all(STDOUT_FILENO, b"\n");
+    )?;
+    rt.write_all(b"\n")
 }
 
-fn say_each_control(name: &[u8], operation: u16, pairs: [u16; 8]) {
-    say_compared(name, operation, 0, pairs);
-    say_compared(name, operation, 1, pairs);
-    say_compared(name, operation, 2, pairs);
-    say_compared(name, operation, 3, pairs);
+fn say_each_control(
+    rt: &impl Print,
+    name: &[u8],
+    operation: u16,
+    pairs: [u16; 8],
+) -> io::Result<()> {
+    say_compared(rt, name, operation, 0, pairs)?;
+    say_compared(rt, name, operation, 1, pairs)?;
+    say_compared(rt, name, operation, 2, pairs)?;
+    say_compared(rt, name, operation, 3, pairs)
 }
 
-fn say_comparisons() {
-    say_each_control(b"word transfer-and-search", 0x04, WORDS);
-    say_each_control(b"bytes funnelled to words, C", 0x0C, WORDS);
-    say_each_control(b"words funnelled to bytes, C", 0x1C, WORDS);
-    say_each_control(b"bytes funnelled to words, D", 0x0D, WORDS);
-    say_each_control(b"words funnelled to bytes, D", 0x1D, WORDS);
-    say_each_control(b"word search", 0x0E, WORDS);
-    say_each_control(b"byte transfer-and-search", 0x05, BYTES);
-    say_each_control(b"byte search", 0x0F, BYTES);
+fn say_comparisons(rt: &impl Print) -> io::Result<()> {
+    say_each_control(rt, b"word transfer-and-search", 0x04, WORDS)?;
+    say_each_control(rt, b"bytes funnelled to words, C", 0x0C, WORDS)?;
+    say_each_control(rt, b"words funnelled to bytes, C", 0x1C, WORDS)?;
+    say_each_control(rt, b"bytes funnelled to words, D", 0x0D, WORDS)?;
+    say_each_control(rt, b"words funnelled to bytes, D", 0x1D, WORDS)?;
+    say_each_control(rt, b"word search", 0x0E, WORDS)?;
+    say_each_control(rt, b"byte transfer-and-search", 0x05, BYTES)?;
+    say_each_control(rt, b"byte search", 0x0F, BYTES)
 }
 
 // Channel 1 with both current addresses at one place, its software request set, about to fetch from a chain address.
@@ -384,90 +404,98 @@ fn fetch_changes(upper: u16, lower: u16) -> u16 {
     changes_in(a)
 }
 
-fn say_number(n: u16) {
-    io::write_all(STDOUT_FILENO, b" ");
-    say_digit(n);
+fn say_number(rt: &impl Print, n: u16) -> io::Result<()> {
+    rt.write_all(b" ")?;
+    say_digit(rt, n)
 }
 
 // The changes of a unit from both ends of a page and of all addresses.
-fn say_from_the_ends(operation: u16, tag: u16, last: u16) {
-    say_number(unit_changes(operation, tag, last));
-    say_number(unit_changes(operation, 0x0100 | tag, 0));
-    say_number(unit_changes(operation, 0xFF00 | tag, last));
-    say_number(unit_changes(operation, tag, 0));
+fn say_from_the_ends(rt: &impl Print, operation: u16, tag: u16, last: u16) -> io::Result<()> {
+    say_number(rt, unit_changes(operation, tag, last))?;
+    say_number(rt, unit_changes(operation, 0x0100 | tag, 0))?;
+    say_number(rt, unit_changes(operation, 0xFF00 | tag, last))?;
+    say_number(rt, unit_changes(operation, tag, 0))
 }
 
 // A line: memory and I/O, upwards, downwards and holding.
-fn say_changes(name: &[u8], operation: u16, last: u16) {
-    io::write_all(STDOUT_FILENO, name);
-    io::write_all(STDOUT_FILENO, b": memory up");
-    say_from_the_ends(operation, 0x0040, last);
-    io::write_all(STDOUT_FILENO, b", down");
-    say_from_the_ends(operation, 0x0048, last);
-    io::write_all(STDOUT_FILENO, b", hold");
-    say_from_the_ends(operation, 0x0050, last);
-    io::write_all(STDOUT_FILENO, b"; I/O up");
-    say_from_the_ends(operation, 0x0000, last);
-    io::write_all(STDOUT_FILENO, b", down");
-    say_from_the_ends(operation, 0x0008, last);
-    io::write_all(STDOUT_FILENO, b"\n");
+fn say_changes(rt: &impl Print, name: &[u8], operation: u16, last: u16) -> io::Result<()> {
+    rt.write_all(name)?;
+    rt.write_all(b": memory up")?;
+    say_from_the_ends(rt, operation, 0x0040, last)?;
+    rt.write_all(b", down")?;
+    say_from_the_ends(rt, operation, 0x0048, last)?;
+    rt.write_all(b", hold")?;
+    say_from_the_ends(rt, operation, 0x0050, last)?;
+    rt.write_all(b"; I/O up")?;
+    say_from_the_ends(rt, operation, 0x0000, last)?;
+    rt.write_all(b", down")?;
+    say_from_the_ends(rt, operation, 0x0008, last)?;
+    rt.write_all(b"\n")
 }
 
-fn say_word_changes() {
-    say_changes(b"word transfer", 0x00, 0xFFFE);
-    say_changes(b"word transfer, flipped", 0x10, 0xFFFE);
-    say_changes(b"word transfer-and-search", 0x04, 0xFFFE);
-    say_changes(b"word transfer-and-search, flipped", 0x14, 0xFFFE);
-    say_changes(b"word search", 0x0E, 0xFFFE);
-    say_changes(b"word search, flipped", 0x1E, 0xFFFE);
+fn say_word_changes(rt: &impl Print) -> io::Result<()> {
+    say_changes(rt, b"word transfer", 0x00, 0xFFFE)?;
+    say_changes(rt, b"word transfer, flipped", 0x10, 0xFFFE)?;
+    say_changes(rt, b"word transfer-and-search", 0x04, 0xFFFE)?;
+    say_changes(rt, b"word transfer-and-search, flipped", 0x14, 0xFFFE)?;
+    say_changes(rt, b"word search", 0x0E, 0xFFFE)?;
+    say_changes(rt, b"word search, flipped", 0x1E, 0xFFFE)
 }
 
-fn say_byte_changes() {
-    say_changes(b"byte transfer", 0x01, 0xFFFF);
-    say_changes(b"byte transfer, flipped", 0x11, 0xFFFF);
-    say_changes(b"byte transfer-and-search", 0x05, 0xFFFF);
-    say_changes(b"byte transfer-and-search, flipped", 0x15, 0xFFFF);
-    say_changes(b"byte search", 0x0F, 0xFFFF);
-    say_changes(b"byte search, flipped", 0x1F, 0xFFFF);
+fn say_byte_changes(rt: &impl Print) -> io::Result<()> {
+    say_changes(rt, b"byte transfer", 0x01, 0xFFFF)?;
+    say_changes(rt, b"byte transfer, flipped", 0x11, 0xFFFF)?;
+    say_changes(rt, b"byte transfer-and-search", 0x05, 0xFFFF)?;
+    say_changes(rt, b"byte transfer-and-search, flipped", 0x15, 0xFFFF)?;
+    say_changes(rt, b"byte search", 0x0F, 0xFFFF)?;
+    say_changes(rt, b"byte search, flipped", 0x1F, 0xFFFF)
 }
 
-fn say_funnel_changes() {
-    say_changes(b"bytes funnelled to words, 8", 0x08, 0xFFFE);
-    say_changes(b"bytes funnelled to words, 9", 0x09, 0xFFFE);
-    say_changes(b"bytes funnelled to words, C", 0x0C, 0xFFFE);
-    say_changes(b"bytes funnelled to words, D", 0x0D, 0xFFFE);
-    say_changes(b"words funnelled to bytes, 8", 0x18, 0xFFFE);
-    say_changes(b"words funnelled to bytes, 9", 0x19, 0xFFFE);
-    say_changes(b"words funnelled to bytes, C", 0x1C, 0xFFFE);
-    say_changes(b"words funnelled to bytes, D", 0x1D, 0xFFFE);
+fn say_funnel_changes(rt: &impl Print) -> io::Result<()> {
+    say_changes(rt, b"bytes funnelled to words, 8", 0x08, 0xFFFE)?;
+    say_changes(rt, b"bytes funnelled to words, 9", 0x09, 0xFFFE)?;
+    say_changes(rt, b"bytes funnelled to words, C", 0x0C, 0xFFFE)?;
+    say_changes(rt, b"bytes funnelled to words, D", 0x0D, 0xFFFE)?;
+    say_changes(rt, b"words funnelled to bytes, 8", 0x18, 0xFFFE)?;
+    say_changes(rt, b"words funnelled to bytes, 9", 0x19, 0xFFFE)?;
+    say_changes(rt, b"words funnelled to bytes, C", 0x1C, 0xFFFE)?;
+    say_changes(rt, b"words funnelled to bytes, D", 0x1D, 0xFFFE)
 }
 
-fn say_fetch_changes() {
-    io::write_all(STDOUT_FILENO, b"fetch:");
-    say_number(fetch_changes(0x0000, 0xFFFE));
-    say_number(fetch_changes(0x0100, 0x0000));
-    say_number(fetch_changes(0xFF00, 0xFFFE));
-    say_number(fetch_changes(0x0000, 0x0000));
-    io::write_all(STDOUT_FILENO, b"\n");
+fn say_fetch_changes(rt: &impl Print) -> io::Result<()> {
+    rt.write_all(b"fetch:")?;
+    say_number(rt, fetch_changes(0x0000, 0xFFFE))?;
+    say_number(rt, fetch_changes(0x0100, 0x0000))?;
+    say_number(rt, fetch_changes(0xFF00, 0xFFFE))?;
+    say_number(rt, fetch_changes(0x0000, 0x0000))?;
+    rt.write_all(b"\n")
 }
 
-fn main() {
-    say(b"C0h at 2E is 3", is_fresh_write_refused(0x2E, 0x00C0, 3));
-    say(b"26h at 2C is 4", is_fresh_write_refused(0x2C, 0x0026, 4));
+fn main(rt: HostRuntime) -> io::Result<()> {
     say(
+        &rt,
+        b"C0h at 2E is 3",
+        is_fresh_write_refused(0x2E, 0x00C0, 3),
+    )?;
+    say(
+        &rt,
+        b"26h at 2C is 4",
+        is_fresh_write_refused(0x2C, 0x0026, 4),
+    )?;
+    say(
+        &rt,
         b"pointer 00FFh reads 007Eh and its register is 1",
         is_pointer_right(),
-    );
+    )?;
     let mut bytes = [0u8; 8192];
     let mut ports = [0u8; 8192];
-    say_what_runs(&mut bytes, &mut ports);
-    say_comparisons();
-    io::write_all(
-        STDOUT_FILENO,
+    say_what_runs(&rt, &mut bytes, &mut ports)?;
+    say_comparisons(&rt)?;
+    rt.write_all(
         b"changes of bits 23-16 from 00FFFF, 010000, FFFFFF and 000000; words, funnels and fetches from 00FFFE and FFFFFE\n",
-    );
-    say_word_changes();
-    say_byte_changes();
-    say_funnel_changes();
-    say_fetch_changes();
+    )?;
+    say_word_changes(&rt)?;
+    say_byte_changes(&rt)?;
+    say_funnel_changes(&rt)?;
+    say_fetch_changes(&rt)
 }
