@@ -18,6 +18,7 @@ fn is_refusal(number: u64) -> bool
 }
 
 // A refused call stores nothing, so that words which no state has stay as they were.
+#[tactic(auto, unfolding(crate::specs::Calls::words_after))]
 fn store_unless_refused(state: &mut [u16; 72], number: u64, next: Controller)
     ensures { state.new ≡ words_after number next state.old }
 {
@@ -27,12 +28,14 @@ fn store_unless_refused(state: &mut [u16; 72], number: u64, next: Controller)
     *state = host_state::store(next);
 }
 
+#[tactic(auto, unfolding(crate::specs::Calls::fresh_left))]
 pub fn einflyga_fresh(state: &mut [u16; 72])
     ensures { state.new ≡ fresh_left }
 {
     *state = host_state::store(call_reset::fresh());
 }
 
+#[tactic(auto, unfolding(crate::specs::Calls::reset_left))]
 pub fn einflyga_reset(state: &mut [u16; 72])
     ensures { state.new ≡ reset_left state.old }
 {
@@ -41,6 +44,7 @@ pub fn einflyga_reset(state: &mut [u16; 72])
     *state = host_state::store(call_reset::reset(u));
 }
 
+#[tactic(auto, unfolding(crate::specs::Calls::pointed_left))]
 pub fn einflyga_write_pointer(state: &mut [u16; 72], pointer: u16)
     ensures { state.new ≡ pointed_left pointer state.old }
 {
@@ -56,6 +60,7 @@ pub fn einflyga_read_pointer(state: &[u16; 72]) -> u16
     call_pointer::read_pointer(host_state::load(entry))
 }
 
+#[tactic(auto, unfolding(crate::specs::Calls::written_left))]
 pub fn einflyga_write(state: &mut [u16; 72], value: u16) -> u32
     ensures { returned result state.new ≡ written_left value state.old }
 {
@@ -76,6 +81,7 @@ pub fn einflyga_read(state: &[u16; 72]) -> u32
     host_answer::read_number(call_read::read(host_state::load(entry)))
 }
 
+#[tactic(auto, unfolding(crate::specs::Calls::lined_left))]
 pub fn einflyga_line(state: &mut [u16; 72], channel: u32, active: bool) -> u32
     ensures { returned result state.new ≡ lined_left channel active state.old }
 {
@@ -89,6 +95,7 @@ pub fn einflyga_line(state: &mut [u16; 72], channel: u32, active: bool) -> u32
     number
 }
 
+#[tactic(auto, unfolding(crate::specs::Calls::acknowledged_left))]
 pub fn einflyga_acknowledge(state: &mut [u16; 72]) -> u32
     ensures { returned result state.new ≡ acknowledged_left state.old }
 {
@@ -102,6 +109,7 @@ pub fn einflyga_acknowledge(state: &mut [u16; 72]) -> u32
     number
 }
 
+#[tactic(auto, using(call_run::proofs::Laws::by_one), unfolding(crate::specs::Calls::stepped_left))]
 pub fn einflyga_step(state: &mut [u16; 72], eop: bool, memory: &mut [u8], io: &mut [u8]) -> u32
     ensures { crossed result state.new (spaces memory.new io.new) ≡ stepped_left eop state.old (spaces memory.old io.old) }
 {
@@ -115,6 +123,7 @@ pub fn einflyga_step(state: &mut [u16; 72], eop: bool, memory: &mut [u8], io: &m
     number
 }
 
+#[tactic(auto, unfolding(crate::specs::Calls::ran_left))]
 pub fn einflyga_run(state: &mut [u16; 72], budget: u32, memory: &mut [u8], io: &mut [u8]) -> u64
     ensures { crossed result state.new (spaces memory.new io.new) ≡ ran_left budget state.old (spaces memory.old io.old) }
 {
@@ -129,6 +138,7 @@ pub fn einflyga_run(state: &mut [u16; 72], budget: u32, memory: &mut [u8], io: &
 }
 
 // A look: of the spaces it asks for the lengths alone.
+#[tactic(auto, unfolding(crate::specs::Calls::why_answered))]
 pub fn einflyga_why(state: &[u16; 72], channel: u32, memory: usize, io: usize) -> u32
     ensures { result ≡ why_answered channel (record { memory = memory; io = io }) state.now }
 {

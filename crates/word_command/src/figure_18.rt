@@ -1,6 +1,5 @@
 // The command of each byte: the row is its first digit, the column its second. An entry is the code of a line of Figure 18, with E and
 // P as in the byte and every bit that is not decoded (X) 0, as in the figure's examples; FF where the figure has no command.
-// `tools/fmt` keeps the rows, where `rt fmt` gives each number a line of its own.
 pub const FIGURE_18: [u8; 256] = [
     //_0    _1    _2    _3    _4    _5    _6    _7    _8    _9    _A    _B    _C    _D    _E    _F
     // 0_ 000X XXXX: Reset

@@ -1,4 +1,4 @@
-use Rattle.std.proofs.Common.{◌≡◌, ◌∙◌, sym, arith}
+use Rattle.std.proofs.Common.{◌∙◌, sym, arith}
 use mathlib.Core.Bool.{true≢false}
 use Rattle.space.specs.Space.{spaces}
 use Rattle.unit_stride.proofs.CodeLaws.{PairLoop, counts, less_two, turned_two, done_one}

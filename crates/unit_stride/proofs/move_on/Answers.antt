@@ -1,4 +1,4 @@
-use Rattle.std.proofs.Common.{◌≡◌, ◌∙◌, sym, ap, subst, arith}
+use Rattle.std.proofs.Common.{◌∙◌, sym, ap, subst}
 use Rattle.facts.proofs.Rows.{on_yet, turn}
 use Rattle.space.specs.Space.{spaces}
 use Rattle.word_mode.specs.declared.Mode.{Mode}
