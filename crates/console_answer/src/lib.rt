@@ -17,6 +17,7 @@ use text_print::Text;
 use word_mode::Reasons;
 
 // A word where it applies.
+#[tactic(auto, using(text_print::proofs::Laws::room), unfolding(crate::specs::Wording::if_so))]
 fn if_so(t: Text, applies: bool, words: &[u8]) -> Text
     ensures { written result ≡ appended (written t) (if_so applies words.now) }
 {
@@ -26,6 +27,7 @@ fn if_so(t: Text, applies: bool, words: &[u8]) -> Text
     t
 }
 
+#[tactic(auto, using(text_print::proofs::Laws::twice), unfolding(crate::specs::Wording::reasons_of))]
 fn reasons(t: Text, why: Reasons) -> Text
     ensures { written result ≡ appended (written t) (reasons_of why) }
 {
@@ -37,6 +39,7 @@ fn reasons(t: Text, why: Reasons) -> Text
 }
 
 // How often the upper address byte changed, where it did.
+#[tactic(auto, using(text_print::proofs::Laws::room, text_print::proofs::Laws::twice), unfolding(crate::specs::Wording::if_so, crate::specs::Wording::upper_of))]
 fn upper(t: Text, changes: u16) -> Text
     ensures { written result ≡ appended (written t) (upper_of changes) }
 {
@@ -46,6 +49,7 @@ fn upper(t: Text, changes: u16) -> Text
     t.with(b" upper ").decimal(changes as u64)
 }
 
+#[tactic(auto, using(text_print::proofs::Laws::twice), unfolding(crate::specs::Wording::answer_of))]
 fn answer(t: Text, a: Answer) -> Text
     ensures { written result ≡ appended (written t) (answer_of a) }
 {
@@ -62,6 +66,7 @@ fn answer(t: Text, a: Answer) -> Text
     }
 }
 
+#[tactic(auto, unfolding(crate::specs::Wording::write_of))]
 pub fn write(a: Writing) -> Text
     ensures { written result ≡ line (write_of a) }
 {
@@ -71,6 +76,7 @@ pub fn write(a: Writing) -> Text
     }
 }
 
+#[tactic(auto, using(text_print::proofs::Laws::twice), unfolding(crate::specs::Wording::read_of))]
 pub fn read(a: Reading) -> Text
     ensures { written result ≡ line (read_of a) }
 {
@@ -80,6 +86,7 @@ pub fn read(a: Reading) -> Text
     }
 }
 
+#[tactic(auto, using(text_print::proofs::Laws::twice), unfolding(crate::specs::Wording::level_of))]
 fn level(c: u8, active: bool) -> Text
     ensures { written result ≡ line (level_of c active) }
 {
@@ -90,6 +97,7 @@ fn level(c: u8, active: bool) -> Text
     t.with(b" inactive")
 }
 
+#[tactic(auto, unfolding(crate::specs::Wording::line_of))]
 pub fn line(c: u8, active: bool, a: LineAnswer) -> Text
     ensures { written result ≡ line (line_of c active a) }
 {
@@ -99,12 +107,14 @@ pub fn line(c: u8, active: bool, a: LineAnswer) -> Text
     }
 }
 
+#[tactic(auto, using(text_print::proofs::Laws::twice))]
 fn acknowledged(w: Which) -> Text
     ensures { written result ≡ line (bytes "acknowledged " ++ channel_of w) }
 {
     text_print::of(b"acknowledged ").channel(w)
 }
 
+#[tactic(auto, using(text_print::proofs::Laws::twice), unfolding(crate::specs::Wording::acknowledge_of))]
 pub fn acknowledge(a: AckAnswer) -> Text
     ensures { written result ≡ line (acknowledge_of a) }
 {
@@ -121,6 +131,7 @@ pub fn step(a: Answer) -> Text
     answer(text_print::empty(), a)
 }
 
+#[tactic(auto, using(text_print::proofs::Laws::twice), unfolding(crate::specs::Wording::run_of))]
 pub fn run(steps: u32, a: Answer) -> Text
     ensures { written result ≡ line (run_of steps a) }
 {
@@ -128,6 +139,7 @@ pub fn run(steps: u32, a: Answer) -> Text
     answer(t.with(b" "), a)
 }
 
+#[tactic(auto, unfolding(crate::specs::Wording::cause_of))]
 fn cause(t: Text, why: Cause) -> Text
     ensures { written result ≡ appended (written t) (cause_of why) }
 {
@@ -149,6 +161,7 @@ fn cause(t: Text, why: Cause) -> Text
     }
 }
 
+#[tactic(auto, using(text_print::proofs::Laws::twice), unfolding(crate::specs::Wording::why_of))]
 pub fn why(c: u8, a: WhyAnswer) -> Text
     ensures { written result ≡ line (why_of c a) }
 {
