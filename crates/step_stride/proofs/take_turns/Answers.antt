@@ -1,10 +1,6 @@
 use mathlib.Core.Path.{sym}
 use Rattle.step_stride.proofs.PairLaws.{out_of_turn}
-use Rattle.std.proofs.Common.{rules, ◌≡◌, cond, ℕ, ◌+◌, ◌-◌, ◌*◌, ◌<◌, ◌≤◌, length, ◌/◌, ◌%◌, Bool, true, false, nat_eq, nat_lt, List, [], ◌∷◌, ◌++◌, slice_index_or, slice_set, bit_and, bit_or, Fits, w8, w32, w64, Bor, MutBor}
-use Rattle.space.specs.Space.{spaces}
-use Rattle.port.specs.Ports.{other}
-use Rattle.step.specs.Step.{ran_as, hold_of}
-use Rattle.step_stride.specs.Stride.{once, is_in_turn, take_turns, pair_of, rested, fetches_by, stride_by, stride_of}
+use Rattle.step_stride.specs.Stride.{take_turns}
 use Rattle.step_stride.proofs.take_turns.Goals as goal
 
 pub returns-then-is_interleave : goal.returns-then-is_interleave
