@@ -117,6 +117,7 @@ fn acknowledge(u: Controller, told: &mut Text) -> Controller
 }
 
 // The controller is left as the model's definitions say.
+#[tactic(auto, unfolding(crate::specs::Calls::call_of))]
 fn make(call: RegisterCall, u: Controller, told: &mut Text) -> Controller
     ensures { result ≡ call_of call u }
 {
@@ -151,6 +152,7 @@ fn make(call: RegisterCall, u: Controller, told: &mut Text) -> Controller
 }
 
 // So are the controller and both spaces.
+#[tactic(auto, unfolding(crate::specs::Calls::advance_of))]
 fn go(
     advance: Advance,
     u: Controller,
