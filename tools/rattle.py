@@ -17,16 +17,16 @@ LET = re.compile(r"\blet (\S+) [:=]")
 MADE_FIELD = re.compile(r"([{;]\s*)([^\s{};=]+) =(?=\s)")
 OWN_FIELD = re.compile(r"^(\s+)(?:pub )?(\S+) : ", re.M)
 USE = re.compile(r"^(?:ghost |pub )?use ([^\s{;]+?)(?: as ([^\s;]+)|\.\{([^}]*)\})?;?$", re.M | re.S)
-MODULE = re.compile(r"Rattle·(\w+?)(?:·(?:specs|proofs))?\.(specs|proofs)\.(.+)$")
+MODULE = re.compile(r"Rattle\.(\w+)\.(specs|proofs)\.(.+)$")
 ANTT_START = re.compile(r"(?:abbrev |unfoldable |pub )*(?:(record|data|ruleset) )?(\S+?)(?: :| \(| \{|:| =)")
 RATTLE_TYPE = re.compile(r"(?:pub )?(struct|enum) (\w+)")
-RATTLE_FUNCTION = re.compile(r"( *)(?:#\[no_mangle\] )?(?:pub )?(?:extern \"C\" )?fn (\w+)")
+RATTLE_FUNCTION = re.compile(r"( *)(?:pub )?(extern \"C\" )?fn (\w+)")
 CALL = re.compile(r"(?:(\w+)::)?(\.)?(\w+)\(")
 
 
 def parts(name):
-    """The words by which a name is used: `_⟨cie≔_⟩` by `⟨cie≔`."""
-    return [p for p in name.split("_") if p not in ("", "⟩")] if name.startswith("_") else [name]
+    """The words by which a name is used: `◌⟨cie≔◌⟩` by `⟨cie≔`."""
+    return [p for p in name.split("◌") if p not in ("", "⟩")]
 
 
 def imports(text):
@@ -91,8 +91,8 @@ class Declaration:
 class Function:
     """A function of Rattle: its contract, and the functions that its body may call."""
 
-    def __init__(self, file, name, owner, text):
-        self.file, self.name, self.owner = file, name, owner
+    def __init__(self, file, name, owner, exported, text):
+        self.file, self.name, self.owner, self.exported = file, name, owner, exported
         head, body = (text.split("\n{\n", 1) if "\n{\n" in text else re.split(r"\{\n", text, maxsplit=1)) if "{\n" in text else (text, "")
         contract = re.search(r"\b(?:requires|ensures)\b.*", head, re.S)
         self.contract = contract.group() if contract else ""
@@ -180,12 +180,12 @@ class File:
                     at += 1
                     taken.append(lines[at])
                 if function:
-                    self.functions.append(Function(self, function[2], owner, "\n".join(t[len(indent) :] for t in taken)))
+                    self.functions.append(Function(self, function[3], owner, bool(function[2]), "\n".join(t[len(indent) :] for t in taken)))
                 else:
                     d = Declaration(self, made[2], made[1], None)
                     d.comment, d.lines = comment, taken
                     self.declarations.append(d)
-            comment = comment + [line] if line.startswith("//") else []
+            comment = comment + [line] if line.startswith("//") else comment if line.startswith("#[") else []
             at += 1
 
 
@@ -214,7 +214,7 @@ class Crates:
         module, name = key
         if key in self.declared:
             return self.declared[key]
-        made = re.match(r"declared\.(?:\w+\.)*?(\w+?)(?:\.the-variants)?$", module[2])
+        made = re.match(r"declared\.(?:\w+\.)*?(\w+?)(?:\.TheVariants)?$", module[2])
         if made:
             return self.type.get((module[0], made[1]))
         file = self.module.get(module)

@@ -14,7 +14,7 @@ fn main() {
     println!("cargo:rerun-if-changed={}", archive.display());
     if !archive.is_file() {
         eprintln!(
-            "no {}: run `rt staticlib host` first, or set EINFLYGA_LIB to its folder",
+            "no {}: run tools/library first, or set EINFLYGA_LIB to its folder",
             archive.display()
         );
         exit(1);
