@@ -16,7 +16,8 @@ use Rattle.unit_laws.proofs.Machine.{every_map, every_init}
 use Rattle.unit_laws.specs.Op.{Ends, ended, Seen, bump, after, done, Area}
 use Rattle.unit_laws.proofs.Op.{Unended, seen_data, Reads-at}
 use Rattle.unit_laws.specs.Search.{First}
-use Rattle.unit_laws.proofs.Search.{outcome, Looking, Found, search_ends}
+use Rattle.unit_laws.specs.Search.{outcome}
+use Rattle.unit_laws.proofs.Search.{Looking, Found, search_ends}
 use Rattle.unit_count.specs.Count.{fewer, terminal}
 use Rattle.unit_count.proofs.Laws.{last_terminal}
 use Rattle.word_address.specs.declared.Address.{Address}

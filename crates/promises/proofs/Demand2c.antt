@@ -19,7 +19,8 @@ use Rattle.unit_laws.specs.Op.{ended, bump}
 use Rattle.unit_laws.specs.Op as op
 use Rattle.unit_laws.proofs.Op.{Unended, Steady}
 use Rattle.unit_laws.specs.Block.{Both}
-use Rattle.unit_laws.proofs.Block.{Laid, Carrying, Arrived, block_arrives}
+use Rattle.unit_laws.specs.Block.{Laid}
+use Rattle.unit_laws.proofs.Block.{Carrying, Arrived, block_arrives}
 use Rattle.unit_laws.specs.Funnel.{to_bytes, to_word}
 use Rattle.unit_laws.proofs.Funnel.{round_trip}
 use Rattle.unit_laws.specs.Pace.{pace}

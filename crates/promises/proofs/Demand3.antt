@@ -9,7 +9,7 @@ use native.Mathlib.Omega.{arith}
 use Rattle.space.specs.Space.{Spaces}
 use Rattle.space.proofs.Laws.{size_refl}
 use Rattle.unit_laws.proofs.Inter.{move}
-use Rattle.unit_laws.proofs.Fair.{serve, Picks}
+use Rattle.unit_laws.specs.Fair.{serve, Picks}
 use Rattle.unit_laws.proofs.Machine.{Lawful, every_of, counts, as_if_alone}
 use Rattle.unit_laws.specs.Local.{Mover}
 use Rattle.unit_laws.proofs.Local.{mover}

@@ -140,7 +140,7 @@ pub funnel_witness : (k : ℕ) → k < 3 → WordBack three there back k
 funnel_witness = demand2c three there back there_and_back
 
 -- and the words there are these
-pub funnelled : (after back).memory
+abbrev pub WordsThere : Type 0
+WordsThere =
+    (after back).memory
     ≡ 18 ∷ 52 ∷ 86 ∷ 120 ∷ 154 ∷ 188 ∷ 0 ∷ 0 ∷ 18 ∷ 52 ∷ 86 ∷ 120 ∷ 154 ∷ 188 ∷ 18 ∷ 52 ∷ 86 ∷ 120 ∷ 154 ∷ 188 ∷ []
-unfolding working call lined_at lined step_of perform_of choice choice_of intent_of turn is_candidate requests interleaves unit_refusal odd_word worked datum_at stored_at moved_of compared comparison stepped_set place_of stepped_on direction_of operation_of request_mode_of look unit_of at with after_unit moved_by some unended
-funnelled = refl

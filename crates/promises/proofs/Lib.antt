@@ -4,6 +4,7 @@ pub mod Demand2b
 pub mod Demand2c
 pub mod Demand3
 pub mod FunnelWitness
+pub mod FunnelledWitness
 pub mod Machine
 pub mod Own
 pub mod Paced
@@ -16,6 +17,7 @@ pub mod WellEnding
 pub mod WellStep
 pub mod InterleaveWitness
 pub mod SearchWitness
+pub mod LineWitness
 pub mod Stretch
 pub mod Underway
 pub mod Seen

@@ -39,7 +39,6 @@ use Rattle.step_rules.specs.Rules.{intent_of, choice_of}
 use Rattle.step.specs.Step.{unit_of, perform_of, step_of}
 use Rattle.port.specs.declared.Which.{Which}
 use Rattle.port.specs.declared.Which.TheVariants.{One, Two}
-use Rattle.call_line.specs.Lines.{lined, lined_at}
 use Rattle.call_reset.specs.Reset.{no_register, no_channel}
 use Rattle.promises.specs.Machine.{answer, channel}
 use Rattle.promises.specs.Calls.{steps, lines, points, reads_pointer, reads, call, Moment, next}
@@ -74,7 +73,7 @@ EndsThird s i x =
 pub no_unit : {A : Type 0} → false ≡ true → A
 no_unit e = absurd (true≢false (sym e))
 
-third : (value : ℕ → Bool) → value 0 ≡ false → value 1 ≡ false → value 2 ≡ true → First value 5 2
+pub third : (value : ℕ → Bool) → value 0 ≡ false → value 1 ≡ false → value 2 ≡ true → First value 5 2
 third value p q r = record { below = omega arith; before = before; here = inl r }
   where
     before : (j : ℕ) → j < 2 → value j ≡ false
@@ -137,19 +136,6 @@ by_line = record {
   calls = lines 1 true ∷ steps ∷ lines 1 false ∷ lines 1 true ∷ steps ∷ points 0x32 ∷ reads_pointer ∷ reads ∷ lines 3 true ∷ lines 1 false ∷ lines 1 true ∷ steps ∷ [];
   machine = record { controller = controller (searching 0x40 0x02 0x0F) no_channel; spaces = record { memory = 10 ∷ 20 ∷ 77 ∷ 40 ∷ 77 ∷ []; io = [] } };
 }
-
-pub line_witness : EndsThird (for_77 One 0x40) 11 by_line
-unfolding by_line enabled_for lined_at lined working call step_of perform_of choice choice_of intent_of turn is_candidate requests interleaves unit_refusal odd_word worked datum_at stored_at moved_of compared comparison stepped_set place_of stepped_on direction_of operation_of request_mode_of look unit_of at with after_unit moved_by some unended
-line_witness = let d = demand2b (for_77 One 0x40) 2 11 by_line stretch in (stretch, refl, d.reasons refl, d.left refl refl)
-  where
-    stretch : SearchStretch (for_77 One 0x40) 2 11 by_line
-    stretch = record {
-      ready = record { operation = refl; sixteen_bits = omega arith; pending = refl; spared = refl };
-      registers = refl;
-      first = third (hit (for_77 One 0x40) by_line.machine.spaces) refl refl refl;
-      mine = refl;
-      untouched = (no_unit, (no_unit, (no_unit, (no_unit, (no_unit, (no_unit, (no_unit, (no_unit, (no_unit, (no_unit, (no_unit, (no_unit, tt))))))))))));
-    }
 
 -- ---- channel 2 searches I/O in demand interleave, while channel 1 moves bytes of memory to I/O, past the data
 

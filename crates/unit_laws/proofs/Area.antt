@@ -13,7 +13,8 @@ use Rattle.space.proofs.Laws.{inside_size, place_inj}
 use Rattle.unit_laws.specs.Local.{In}
 use Rattle.unit_laws.specs.Op.{Area}
 use Rattle.unit_laws.specs.Block.{To}
-use Rattle.unit_laws.proofs.Block.{Laid, laid_strips}
+use Rattle.unit_laws.specs.Block.{Laid}
+use Rattle.unit_laws.proofs.Block.{laid_strips}
 use Rattle.unit_laws.specs.Pace.{pace}
 use Rattle.unit_laws.proofs.Pace.{up1_distinct, up2_distinct, down1_distinct, down2_distinct}
 use Rattle.unit_laws.specs.Area.{Lane, byte, high, low, half, MovesBy, MovesBy2, AreasInside, word_reads, byte_reads, byte_writes, word_writes, down1}

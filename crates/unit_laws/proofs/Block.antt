@@ -18,7 +18,7 @@ use Rattle.unit_laws.specs.Machine.{iter, Every}
 use Rattle.unit_laws.proofs.Machine.{every_at, every_init}
 use Rattle.unit_laws.specs.Op.{Seen, bump, after, done, Area}
 use Rattle.unit_laws.proofs.Op.{Unended, seen_data, Steady, Reads-at, datum}
-use Rattle.unit_laws.specs.Block.{To, Both}
+use Rattle.unit_laws.specs.Block.{Distinct, AllInside, Laid, Both}
 
 -- ---- a list of writes, read back
 
@@ -26,14 +26,6 @@ use Rattle.unit_laws.specs.Block.{To, Both}
 abbrev pub values : List Write → List ℕ → List ℕ
 values [] d = []
 values (w ∷ ws) d = w.what d ∷ values ws d
-
--- no place stands twice in the list
-abbrev pub Distinct : List Place → Type 0
-Distinct [] = Unit {0}
-Distinct (l ∷ ls) = (¬ (In l ls)) × Distinct ls
-
-abbrev pub AllInside : Spaces → List Place → Type 0
-AllInside s ls = (l : Place) → In l ls → Inside s l
 
 pub gets_puts : (ws : List Write) (d : List ℕ) (s : Spaces) → Distinct (places ws) → AllInside s (places ws)
     → gets (puts ws d s) (places ws) ≡ values ws d
@@ -48,13 +40,6 @@ gets_puts (w ∷ ws) d s h b = λ i. top i ∷ gets_puts ws d s' h.1 inside' i
 
     inside' : AllInside s' (places ws)
     inside' l k = inside_size l (size_sym (size_put s w.to (w.what d))) (b l (inr k))
-
--- the places written are distinct, inside the spaces, and none is read
-pub record Laid (n : ℕ) (src : ℕ → List Place) (dst : ℕ → List Write) (s : Spaces) : Type 0 where
-  pub within : (k : ℕ) → k < n → Distinct (places (dst k))
-  pub between : (j k : ℕ) → j < n → k < n → j ≢ k → (l : Place) → In l (places (dst j)) → ¬ (In l (places (dst k)))
-  pub unread : (l : Place) → Area n src l → ¬ (To n dst l)
-  pub inside : (k : ℕ) → k < n → AllInside s (places (dst k))
 
 -- ---- places laid out by a function: unit k writes the w places from number k * w on
 

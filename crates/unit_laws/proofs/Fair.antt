@@ -4,23 +4,7 @@ use Prim.Native.Nat.{ℕ, zero, suc, ◌≤◌}
 use mathlib.Core.List.{List, [], ◌∷◌}
 use native.Mathlib.Omega.{arith}
 use Rattle.unit_laws.specs.Inter.{Moving, first, second, back, firsts, seconds}
-use Rattle.unit_laws.specs.Fair.{LatestMover, channel1, channel2, nobody}
-
--- a give-back changes nothing of who was served last
-abbrev pub serve : Moving → LatestMover → LatestMover
-serve first x = channel1
-serve second x = channel2
-serve back x = x
-
--- the channel not served last, channel 1 if none; a give-back may come at any time
-abbrev pub Picks : Moving → LatestMover → Type 0
-Picks first nobody = Unit {0}
-Picks first channel1 = ⊥
-Picks first channel2 = Unit {0}
-Picks second nobody = ⊥
-Picks second channel1 = Unit {0}
-Picks second channel2 = ⊥
-Picks back x = Unit {0}
+use Rattle.unit_laws.specs.Fair.{LatestMover, channel1, channel2, nobody, serve, Picks}
 
 abbrev pub Fair : LatestMover → List Moving → Type 0
 Fair x [] = Unit {0}

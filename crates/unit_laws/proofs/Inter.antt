@@ -8,7 +8,7 @@ use Rattle.space.specs.declared.Place.{Place}
 use Rattle.space.specs.Space.{Spaces, get, SameSize}
 use Rattle.space.proofs.Laws.{size_trans, size_sym, ext}
 use Rattle.unit_laws.specs.Local.{Agree, Mover}
-use Rattle.unit_laws.specs.Inter.{State, Moving, firsts, seconds, unit₁, unit₂, units₁, units₂, Apart, back, first, second}
+use Rattle.unit_laws.specs.Inter.{State, Moving, Sets, Disjoint, firsts, seconds, unit₁, unit₂, units₁, units₂, Apart, back, first, second}
 
 -- ---- one channel
 
@@ -42,19 +42,6 @@ module _ {z : Spaces} {R : Type 0} (m : Mover z R) where
         (size_trans (m.local.sizes r s) e) (size_trans (m.local.sizes r t) f)
         (agree_after Rd r s t x.0.reads e f h) x.1),
   )
-
--- ---- the sets that each channel keeps within; neither's writes meet the other's
-
-pub record Sets : Type 1 where
-  pub R1 : Place → Type 0
-  pub W1 : Place → Type 0
-  pub R2 : Place → Type 0
-  pub W2 : Place → Type 0
-
-pub record Disjoint (q : Sets) : Type 0 where
-  pub w1w2 : (l : Place) → q.W1 l → ¬ (q.W2 l)
-  pub w1r2 : (l : Place) → q.W1 l → ¬ (q.R2 l)
-  pub r1w2 : (l : Place) → q.R1 l → ¬ (q.W2 l)
 
 module _ {z : Spaces} {R₁ R₂ : Type 0} (m₁ : Mover z R₁) (m₂ : Mover z R₂) where
   abbrev pub move : Moving → State R₁ R₂ → State R₁ R₂

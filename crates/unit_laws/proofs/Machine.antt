@@ -6,9 +6,11 @@ use native.Mathlib.Nat.{zero-lt-suc, le_of_suc-le-suc, not-suc-le-zero}
 use Rattle.space.specs.Space.{Spaces, SameSize}
 use Rattle.unit_laws.specs.Local.{Mover}
 use Rattle.unit_laws.specs.Inter.{Moving, first, second, back, State, units₁, units₂}
-use Rattle.unit_laws.proofs.Inter.{Sets, Disjoint, Within, move, run, Fits, Along, interleave}
+use Rattle.unit_laws.specs.Inter.{Sets, Disjoint}
+use Rattle.unit_laws.proofs.Inter.{Within, move, run, Fits, Along, interleave}
 use Rattle.unit_laws.specs.Fair.{LatestMover}
-use Rattle.unit_laws.proofs.Fair.{serve, Picks, Fair, balanced}
+use Rattle.unit_laws.specs.Fair.{serve, Picks}
+use Rattle.unit_laws.proofs.Fair.{Fair, balanced}
 use Rattle.unit_laws.specs.Machine.{iter, Every, View, turns, count₁, count₂, AllApart}
 
 -- what holds at the start and outlasts a step that meets Q holds before each step of a stretch whose steps meet Q, and at its end

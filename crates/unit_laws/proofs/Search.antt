@@ -16,9 +16,9 @@ use Rattle.space.specs.Space.{Spaces}
 use Rattle.unit_laws.specs.Local.{Agree, Prog}
 use Rattle.unit_laws.specs.Machine.{iter, Every}
 use Rattle.unit_laws.proofs.Machine.{every_at, every_init}
-use Rattle.unit_laws.specs.Op.{Ends, ended, Seen, bump, after, done, Area}
+use Rattle.unit_laws.specs.Op.{ended, Seen, bump, after, done, Area}
 use Rattle.unit_laws.proofs.Op.{Unended, seen_data, Steady, Reads-at, datum}
-use Rattle.unit_laws.specs.Search.{First, meets}
+use Rattle.unit_laws.specs.Search.{First, outcome, meets}
 
 eqb_no : (m n : ℕ) → m ≢ n → eqb m n ≡ false
 eqb_no m n h = go (eqb m n) (eqb→eq m n)
@@ -44,10 +44,6 @@ ended_of b c (inr e) = ap (λ (x : Bool). b || x) e ∙ or_right b
 
 unended_of : (b c : Bool) → b ≡ false → c ≡ false → (b || c) ≡ false
 unended_of b c e f = ap (λ (x : Bool). x || c) e ∙ f
-
--- what ends unit k of a search
-abbrev pub outcome : (ℕ → Bool) → ℕ → ℕ → Ends
-outcome value n k = record { mc = value k; tc = eqb (suc k) n }
 
 pub first_ends : (value : ℕ → Bool) (n stop : ℕ) → First value n stop → ended (outcome value n stop) ≡ true
 first_ends value n stop f = ended_of (value stop) (eqb (suc stop) n) (go f.here)

@@ -51,3 +51,16 @@ module _ {z : Spaces} {R₁ R₂ : Type 0} (m₁ : Mover z R₁) (m₂ : Mover z
     pub w1w2 : (l : Place) → m₁.Writes r₁ l → ¬ (m₂.Writes r₂ l)
     pub w1r2 : (l : Place) → m₁.Writes r₁ l → ¬ (m₂.Reads r₂ l)
     pub r1w2 : (l : Place) → m₁.Reads r₁ l → ¬ (m₂.Writes r₂ l)
+
+-- ---- the sets that each channel keeps within; neither's writes meet the other's
+
+pub record Sets : Type 1 where
+  pub R1 : Place → Type 0
+  pub W1 : Place → Type 0
+  pub R2 : Place → Type 0
+  pub W2 : Place → Type 0
+
+pub record Disjoint (q : Sets) : Type 0 where
+  pub w1w2 : (l : Place) → q.W1 l → ¬ (q.W2 l)
+  pub w1r2 : (l : Place) → q.W1 l → ¬ (q.R2 l)
+  pub r1w2 : (l : Place) → q.R1 l → ¬ (q.W2 l)
