@@ -1,13 +1,19 @@
--- What each host call that a line names leaves, by the model's own definitions. Assumes nothing.
+-- What each host call that a line names leaves, and the lines that tell a read and a look, by the model's own definitions. Assumes nothing.
+use Rattle.std.specs.Prelude.{ℕ, List}
 use Rattle.space.specs.Space.{Spaces}
+use Rattle.space_board.specs.declared.Board.{Board}
 use Rattle.step.specs.declared.Controller.{Controller}
 use Rattle.step.specs.Step.{step_of}
 use Rattle.call_pointer.specs.Pointer.{pointed}
 use Rattle.call_write.specs.Writing.{write_of}
 use Rattle.call_reset.specs.Reset.{reset_of}
+use Rattle.call_read.specs.Reading.{read_of}
 use Rattle.call_line.specs.Lines.{lined_at}
 use Rattle.call_acknowledge.specs.Acknowledge.{acknowledge_of}
 use Rattle.call_run.specs.Run.{run_of}
+use Rattle.standstill.specs.Causes.{why_at}
+use Rattle.text_print.specs.Text.{line}
+use Rattle.console_answer.specs.Wording as wording
 use Rattle.console_line.specs.declared.RegisterCall.{RegisterCall}
 use Rattle.console_line.specs.declared.RegisterCall.TheVariants.{Reset, WritePointer, ReadPointer, Write, Read, Set, Get, Line, Acknowledge}
 use Rattle.console_line.specs.declared.Advance.{Advance}
@@ -40,3 +46,10 @@ advance_of (Step eop) u z =
 advance_of (Run n) u z =
     let o = (run_of n u z).last in
     leaves o.stepped.state o.spaces
+
+-- The lines that tell what a register read and a look answer.
+abbrev pub read_line : Controller → List ℕ
+read_line u = line (wording.read_of (read_of u))
+
+abbrev pub why_line : ℕ → Board → Controller → List ℕ
+why_line c b u = line (wording.why_of c (why_at c b u))

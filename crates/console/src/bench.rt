@@ -1,11 +1,13 @@
 // The bench: the controller, the two spaces that are lent to it, and the host's calls.
 ghost use Rattle.std.specs.Prelude.{◌≡◌, ◌-◌, ◌≤◌};
 ghost use Rattle.space.specs.Space.{spaces};
+ghost use Rattle.space_board.specs.Board.{board_of};
+ghost use Rattle.text_print.specs.Text.{written};
 ghost use Rattle.call_write.specs.Writing.{write_of};
 ghost use Rattle.call_reset.specs.Reset.{fresh_of};
 ghost use Rattle.call_line.specs.Lines.{lined_at};
 ghost use Rattle.call_acknowledge.specs.Acknowledge.{acknowledge_of};
-ghost use Rattle.console.specs.Calls.{call_of, leaves, advance_of};
+ghost use Rattle.console.specs.Calls.{call_of, leaves, advance_of, read_line, why_line};
 
 use crate::print;
 use console_line::{Advance, Input, LentSpace, RegisterCall, Request};
@@ -94,7 +96,9 @@ fn write(w: u16, u: Controller, told: &mut Text) -> Controller
     written.state
 }
 
-fn read(u: Controller) -> Text {
+fn read(u: Controller) -> Text
+    ensures { written result ≡ read_line u }
+{
     console_answer::read(call_read::read(u))
 }
 
@@ -179,7 +183,9 @@ fn go(
 }
 
 // A look: nothing changes.
-fn why(c: u8, u: Controller, memory: &[u8], io: &[u8]) -> Text {
+fn why(c: u8, u: Controller, memory: &[u8], io: &[u8]) -> Text
+    ensures { written result ≡ why_line c (board_of (spaces memory.now io.now)) u }
+{
     let answer = standstill::why(c as u32, space_board::lends(memory, io), u);
     console_answer::why(c, answer)
 }

@@ -66,7 +66,6 @@ pub fn row(at: usize, bytes: &[u8]) -> Text
     row_bytes(text_print::empty().hex6(at), bytes)
 }
 
-#[tactic(auto, using(text_print::proofs::Laws::twice), unfolding(crate::specs::Phrases::not_understood_of))]
 pub fn not_understood(number: u64) -> Text
     ensures { written result ≡ line (not_understood_of number) }
 {

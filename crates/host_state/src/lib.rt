@@ -125,7 +125,6 @@ fn channel_words(c: Channel) -> [u16; 31]
 }
 
 // A channel's words, put in from number `at` on.
-#[tactic(auto, using(crate::proofs::Laws::put_begun, crate::proofs::Laws::put_on, crate::proofs::Laws::put_done))]
 fn put(w: &mut [u16; 72], at: usize, words: &[u16; 31])
     requires { (at ≤ 41) × (length words.now ≡ 31) }
     ensures { w.new ≡ put_from at words.now w.old }

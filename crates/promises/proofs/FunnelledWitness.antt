@@ -1,4 +1,4 @@
--- What the funnel's two halves leave. Assumes nothing.
+-- What the funnel's two halves leave; apart from its statement, which an edit turns. Assumes nothing.
 use mathlib.Core.Path.{refl}
 use Rattle.facts.specs.Look.{look}
 use Rattle.word_tag.specs.Tag.{direction_of}

@@ -1,4 +1,4 @@
--- The search's promise is not empty in single either. Assumes nothing.
+-- The search's promise is not empty in single either; apart from `by_line`, which an edit turns. Assumes nothing.
 use mathlib.Core.Path.{refl}
 use native.Mathlib.Omega.{arith}
 use Rattle.facts.specs.Look.{look}

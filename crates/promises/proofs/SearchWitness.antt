@@ -1,4 +1,4 @@
--- The search's promise is not empty: five bytes for 77, of which the third is the first that matches, three times; and five words, of which
+-- The search's promise is not empty: five bytes for 77, of which the third is the first that matches, three times (in single in LineWitness); and five words, of which
 -- the third is the first with 77 in a half. Assumes nothing.
 use mathlib.Core.Path.{◌≡◌, refl, sym, ◌∙◌}
 use mathlib.Core.Logic.{inl, inr}

@@ -181,7 +181,6 @@ impl Controller {
     }
 
     // Rules 2 to 6.
-    #[tactic(auto, using(crate::proofs::CodeLaws::rule_2, crate::proofs::CodeLaws::rule_3, crate::proofs::CodeLaws::rule_4, crate::proofs::CodeLaws::rule_5))]
     fn enabled_intent(self) -> Choice
         ensures { result ≡ intent_by true self.control.chain self.control.note self.control.bus (facts_of self) }
     {
@@ -329,7 +328,6 @@ impl Controller {
     }
 
     // A unit that does not end its operation.
-    #[tactic(auto, using(crate::proofs::CodeLaws::gone_on_lem), unfolding(crate::specs::Controller::at, crate::specs::Controller::with))]
     fn go_on(mut self, w: Which, m: Moved) -> Controller
         ensures { result ≡ gone_on w self m }
     {
@@ -393,7 +391,6 @@ impl Controller {
         }
     }
 
-    #[tactic(auto, using(crate::proofs::CodeLaws::does_unit))]
     fn unit(self, w: Which, eop: bool, memory: &mut [u8], io: &mut [u8]) -> Stepped
         ensures { outcome result (spaces memory.new io.new) ≡ perform_of (Choice.Unit w) eop self (spaces memory.old io.old) }
     {

@@ -90,6 +90,7 @@ impl Text {
     pub fn decimal(self, n: u64) -> Text
         ensures { written result ≡ appended (written self) (decimal_of n) }
     {
+        // Twenty digits hold any number: the first one is never behind the array.
         let mut digits = [0u8; 20];
         let mut at = 19;
         let mut left = n;

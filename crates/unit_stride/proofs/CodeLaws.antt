@@ -97,6 +97,13 @@ pub record PairLoop (b : Board) (both : Bool) (limit most : ℕ) (all : Row Unit
   pub reached : LoopAt (unit_turns b both) (limit - 1) all on k (record { pair = q; spaces = z }) r
   pub moved : record { last = whole x z'; count = n } ≡ moved_on b (most - 1) 0 q.work z
 
+-- a turn of the loop: what its invariant says, and what its call answers
+pub a_turn : {b : Board} {limit most : ℕ} {m₀ i₀ m i : List ℕ} {p₀ p q : Pair} {x₀ x : Moved} {z' : Spaces} {k n : ℕ} {on : Bool} (both : Bool)
+    → Turning b both limit m₀ i₀ p₀ m i x₀ p q k on → most ≡ cond both 1 limit → on ≡ true
+    → record { last = whole x z'; count = n } ≡ moved_on b (most - 1) 0 q.work (spaces m i)
+    → PairLoop b both limit most (onwards b both (limit - 1) 0 p₀ (spaces m₀ i₀)) q (spaces m i) z' (record { which = p.which; rests = p.other; unit = whole x₀ (spaces m i) }) x k n on
+a_turn both t l g e = record { limited = l; going = g; first = t.first; reached = t.reached; moved = e }
+
 module _ {b : Board} {limit most : ℕ} {all : Row UnitDone} {q : Pair} {z z' : Spaces} {r : UnitDone} {x : Moved} {k n : ℕ} {on : Bool} where
   there : (both : Bool) → PairLoop b both limit most all q z z' r x k n on → LoopAt (unit_turns b both) (limit - 1) all true k (record { pair = q; spaces = z }) r
   there both t = on_yet (unit_turns b both) (limit - 1) all k (record { pair = q; spaces = z }) r on t.going t.reached

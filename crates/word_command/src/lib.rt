@@ -31,7 +31,6 @@ const SET: bool = true;
 const CLEAR: bool = false;
 
 // The table's entry for the lower byte of a word; its upper byte is disregarded.
-#[tactic(auto, using(crate::proofs::Figure18::at_each_byte), unfolding(crate::specs::Figure18::command_at, crate::specs::Command::command_of, facts::specs::Look::look))]
 fn entry(word: u16) -> u8
     ensures { command_at result ≡ command_of word }
 {

@@ -42,7 +42,6 @@ pub enum Next {
 }
 
 // The place of the next entry, 0 for that of bit 9 to 9 for that of bit 0; 10 where none is left.
-#[tactic(auto, using(crate::proofs::Laws::leading), unfolding(crate::specs::Reload::next_of))]
 fn next_place(left: u16) -> u32
     ensures { result ≡ next_of left }
 {
@@ -80,7 +79,6 @@ pub fn rest(left: u16) -> u16
 }
 
 // The words of a chain table, the reload word among them: one for each entry, and one more for each that has two.
-#[tactic(auto, using(facts::proofs::Masks::and_low, crate::proofs::Laws::counted), unfolding(crate::specs::Reload::words_of))]
 pub fn words(reload: u16) -> u32
     ensures { result ≡ words_of reload }
 {

@@ -5,7 +5,6 @@ ghost use Rattle.std.specs.Prelude.{◌≡◌};
 ghost use Rattle.word_tag.specs.Tag.{kept_tag, kept_chain, is_memory, is_normal, step_of, waits_of};
 
 // Bits 5 and 0 are absent.
-#[tactic(auto, using(facts::proofs::Masks::and_split))]
 pub fn kept_tag(w: u16) -> u16
     ensures { result ≡ kept_tag w }
 {
@@ -13,7 +12,6 @@ pub fn kept_tag(w: u16) -> u16
 }
 
 // The chain's upper word keeps bits 15-8 and 2-1.
-#[tactic(auto, using(facts::proofs::Masks::and_split))]
 pub fn kept_chain(w: u16) -> u16
     ensures { result ≡ kept_chain w }
 {

@@ -1,4 +1,4 @@
-use Rattle.step.proofs.CodeLaws.{rule_4, rule_4}
+use Rattle.step.proofs.CodeLaws.{rule_4}
 use Rattle.step.proofs.Controller.enabled_intent.Goals as goal
 
 pub returns-in-Kept : goal.returns-in-Kept
