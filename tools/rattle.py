@@ -21,7 +21,7 @@ MODULE = re.compile(r"Rattle\.(\w+)\.(specs|proofs)\.(.+)$")
 ANTT_START = re.compile(r"(?:abbrev |unfoldable |pub )*(?:(record|data|ruleset) )?(\S+?)(?: :| \(| \{|:| =)")
 RATTLE_TYPE = re.compile(r"(?:pub )?(struct|enum) (\w+)")
 RATTLE_FUNCTION = re.compile(r"( *)(?:pub )?(extern \"C\" )?fn (\w+)")
-CALL = re.compile(r"(?:(\w+)::)?(\.)?(\w+)\(")
+CALL = re.compile(r"(?:(\w+)::)?(\.)?(\w+)(?:::<\w+>)?\(")
 
 
 def parts(name):
@@ -240,7 +240,8 @@ class Crates:
         return seen
 
     def called(self, functions):
-        """Every function that these may call: a method by its name alone."""
+        """Every function that these may call: a method by its name alone, one of the crate's own module by its name."""
+        stems = {(f.module[0], f.path.stem) for f in self.files if f.module[1] == "src"}
         seen, todo = set(), list(functions)
         while todo:
             f = todo.pop()
@@ -249,6 +250,6 @@ class Crates:
             seen.add(f)
             for crate, dot, name in CALL.findall(f.body):
                 for (home, called), found in self.functions.items():
-                    if called == name and (home == crate or not crate and (dot or home == f.file.module[0]) or crate[:1].isupper() or crate in ("bench", "print", "Self")):
+                    if called == name and (home == crate or not crate and (dot or home == f.file.module[0]) or crate[:1].isupper() or crate in ("Self", "u8") or (f.file.module[0], crate) in stems):
                         todo += found
         return seen

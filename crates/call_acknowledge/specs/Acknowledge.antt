@@ -1,5 +1,7 @@
 -- Document 01, "Acknowledge". Assumes nothing.
-use Rattle.std.specs.Prelude.{ℕ, Bool, true, false, ◌&&◌, ◌||◌}
+use Rattle.std.specs.Prelude.{ℕ, Bool, true, false, ◌&&◌, ◌||◌, Result, Ok, Err}
+use Rattle.refusal.specs.declared.Refusal.{Refusal}
+use Rattle.refusal.specs.declared.Refusal.TheVariants.{NothingToAcknowledge}
 use Rattle.facts.specs.Bits.{bit_at}
 use Rattle.port.specs.declared.Which.{Which}
 use Rattle.port.specs.declared.Which.TheVariants.{One, Two}
@@ -8,9 +10,9 @@ use Rattle.channel.specs.Set.{◌⟨interrupt≔◌⟩, ◌⟨sip≔◌⟩, ◌�
 use Rattle.channel.specs.Ending.{with_ip, chains, finished}
 use Rattle.step.specs.declared.Controller.{Controller}
 use Rattle.step.specs.Controller.{at, with}
-use Rattle.call_acknowledge.specs.declared.Acknowledged.{Acknowledged}
-use Rattle.call_acknowledge.specs.declared.AckAnswer.{AckAnswer}
-use Rattle.call_acknowledge.specs.declared.AckAnswer.TheVariants.{Refused, Word, NoWord}
+use Rattle.step.specs.declared.Done.{Done}
+use Rattle.call_acknowledge.specs.declared.Acknowledgement.{Acknowledgement}
+use Rattle.call_acknowledge.specs.declared.Acknowledgement.TheVariants.{Word, NoWord}
 
 -- It takes a channel with CIE and (IP or SIP).
 abbrev pub interrupts : Channel → Bool
@@ -34,18 +36,18 @@ abbrev pub is_vectorless : ℕ → Bool
 is_vectorless master = bit_at 3 master
 
 -- It answers the channel and its save word (no word if master mode 3 is set), as it stood before the call.
-abbrev pub answered : Bool → Which → Channel → AckAnswer
+abbrev pub answered : Bool → Which → Channel → Acknowledgement
 answered true w c = NoWord w
 answered false w c = Word w c.interrupt.save
 
-unfoldable pub acknowledged_at : Which → Controller → Acknowledged
-acknowledged_at w u = record { state = with w (acknowledged w (at w u)) u; answer = answered (is_vectorless u.master) w (at w u) }
+unfoldable pub acknowledged_at : Which → Controller → Done (Result Acknowledgement Refusal)
+acknowledged_at w u = record { state = with w (acknowledged w (at w u)) u; answer = Ok (answered (is_vectorless u.master) w (at w u)) }
 
 -- Channel 1, then 2. 9: nothing to acknowledge.
-abbrev pub acknowledge_by : Bool → Bool → Controller → Acknowledged
+abbrev pub acknowledge_by : Bool → Bool → Controller → Done (Result Acknowledgement Refusal)
 acknowledge_by true two u = acknowledged_at One u
 acknowledge_by false true u = acknowledged_at Two u
-acknowledge_by false false u = record { state = u; answer = Refused 9 }
+acknowledge_by false false u = record { state = u; answer = Err NothingToAcknowledge }
 
-unfoldable pub acknowledge_of : Controller → Acknowledged
+unfoldable pub acknowledge_of : Controller → Done (Result Acknowledgement Refusal)
 acknowledge_of u = acknowledge_by (interrupts u.one) (interrupts u.two) u

@@ -6,19 +6,14 @@ ghost use Rattle.call_acknowledge.specs.Acknowledge.{interrupts, finished_later,
 
 use channel::Channel;
 use port::Which;
-use step::Controller;
+use refusal::Refusal;
+use step::{Controller, Done};
 
+// The channel and its save word, or the channel alone where master mode says so.
 #[derive(Clone, Copy)]
-pub enum AckAnswer {
-    Refused(u8),
+pub enum Acknowledgement {
     Word(Which, u16),
     NoWord(Which),
-}
-
-#[derive(Clone, Copy)]
-pub struct Acknowledged {
-    pub state: Controller,
-    pub answer: AckAnswer,
 }
 
 fn is_interrupting(c: Channel) -> bool
@@ -55,30 +50,30 @@ fn acknowledge_channel(w: Which, c: Channel) -> Channel
 fn is_vectorless(master: u16) -> bool
     ensures { result ≡ is_vectorless master }
 {
-    (master >> 3) & 1 == 1
+    facts::bit(master, 3)
 }
 
 // The save word is answered as it stood before the call.
 #[tactic(auto, unfolding(crate::specs::Acknowledge::acknowledged_at))]
-fn acknowledge_at(w: Which, u: Controller) -> Acknowledged
+fn acknowledge_at(w: Which, u: Controller) -> Done<Result<Acknowledgement, Refusal>>
     ensures { result ≡ acknowledged_at w u }
 {
     let c = u.channel(w);
     let next = u.with_channel(w, acknowledge_channel(w, c));
     if is_vectorless(u.master) {
-        return Acknowledged {
+        return Done {
             state: next,
-            answer: AckAnswer::NoWord(w),
+            answer: Ok(Acknowledgement::NoWord(w)),
         };
     }
-    Acknowledged {
+    Done {
         state: next,
-        answer: AckAnswer::Word(w, c.interrupt.save),
+        answer: Ok(Acknowledgement::Word(w, c.interrupt.save)),
     }
 }
 
 #[tactic(auto, unfolding(crate::specs::Acknowledge::acknowledge_of))]
-pub fn acknowledge(u: Controller) -> Acknowledged
+pub fn acknowledge(u: Controller) -> Done<Result<Acknowledgement, Refusal>>
     ensures { result ≡ acknowledge_of u }
 {
     if is_interrupting(u.one) {
@@ -87,8 +82,8 @@ pub fn acknowledge(u: Controller) -> Acknowledged
     if is_interrupting(u.two) {
         return acknowledge_at(Which::Two, u);
     }
-    Acknowledged {
+    Done {
         state: u,
-        answer: AckAnswer::Refused(9),
+        answer: Err(Refusal::NothingToAcknowledge),
     }
 }

@@ -4,65 +4,51 @@
 ghost use Rattle.std.specs.Prelude.{◌≡◌};
 ghost use Rattle.channel.specs.Set.{◌⟨mode≔◌⟩};
 ghost use Rattle.step.specs.Controller.{at, with};
-ghost use Rattle.call_command.specs.Commands.{refuses, takes, is_busy, carried_out, is_reset, commanded};
+ghost use Rattle.call_command.specs.Commands.{refuses, takes, is_busy, carried_out, obeyed, is_reset, commanded};
 
 use port::Which;
-use step::Controller;
-use step_bus::{Bus, Chain};
+use refusal::Refusal;
+use step::{Controller, Done};
 use word_command::Command;
 use word_mode::Mode;
-
-#[derive(Clone, Copy)]
-pub enum Writing {
-    Refused(u8),
-    Taken,
-}
-
-#[derive(Clone, Copy)]
-pub struct Written {
-    pub state: Controller,
-    pub answer: Writing,
-}
 
 #[tactic(auto, unfolding(crate::specs::Commands::is_busy))]
 pub fn is_busy(u: Controller) -> bool
     ensures { result ≡ is_busy u }
 {
-    let control = u.control;
-    let bus = control.bus;
-    let chain = control.chain;
-    match bus {
-        Bus::Kept(_) => true,
-        Bus::Free => match chain {
-            Chain::NoChain => false,
-            Chain::Of(_, _) => true,
-        },
-    }
+    u.control.bus.is_some() | u.control.chain.is_some()
 }
 
-pub fn refuse(n: u8, u: Controller) -> Written
-    ensures { result ≡ refuses n u }
+pub fn refuse(r: Refusal, u: Controller) -> Done<Result<(), Refusal>>
+    ensures { result ≡ refuses r u }
 {
-    Written {
+    Done {
         state: u,
-        answer: Writing::Refused(n),
+        answer: Err(r),
     }
 }
 
-pub fn take(u: Controller) -> Written
+pub fn take(u: Controller) -> Done<Result<(), Refusal>>
     ensures { result ≡ takes u }
 {
-    Written {
+    Done {
         state: u,
-        answer: Writing::Taken,
+        answer: Ok(()),
     }
 }
 
-fn set_interrupts(k: Which, set: bool, e: bool, p: bool, w: Which, u: Controller) -> Written
+fn set_interrupts(
+    k: Which,
+    set: bool,
+    e: bool,
+    p: bool,
+    w: Which,
+    u: Controller,
+) -> Done<Result<(), Refusal>>
     ensures { result ≡ carried_out (Command.Interrupts k set e p) w u }
 {
-    if p & port::is_other(w, k) {
-        return refuse(4, u);
+    if p & (w != k) {
+        return refuse(Refusal::OtherChannelsIp, u);
     }
     take(u.with_channel(
         k,
@@ -70,18 +56,18 @@ fn set_interrupts(k: Which, set: bool, e: bool, p: bool, w: Which, u: Controller
     ))
 }
 
-fn start(k: Which, w: Which, u: Controller) -> Written
+fn start(k: Which, w: Which, u: Controller) -> Done<Result<(), Refusal>>
     ensures { result ≡ carried_out (Command.StartChain k) w u }
 {
     let c = u.channel(k);
     if channel_command::can_not_chain(c) {
-        return refuse(5, u);
+        return refuse(Refusal::CannotChain, u);
     }
     take(u.with_channel(k, channel_command::start_chain(c)))
 }
 
 // Software request, flip and hardware mask: the mode with one bit anew.
-fn with_mode(k: Which, m: Mode, u: Controller) -> Written
+fn with_mode(k: Which, m: Mode, u: Controller) -> Done<Result<(), Refusal>>
     ensures { result ≡ takes (with k (at k u ⟨mode≔ m ⟩) u) }
 {
     let mut c = u.channel(k);
@@ -89,7 +75,7 @@ fn with_mode(k: Which, m: Mode, u: Controller) -> Written
     take(u.with_channel(k, c))
 }
 
-fn carry_out(x: Command, w: Which, u: Controller) -> Written
+fn carry_out(x: Command, w: Which, u: Controller) -> Done<Result<(), Refusal>>
     ensures { result ≡ carried_out x w u }
 {
     match x {
@@ -104,38 +90,30 @@ fn carry_out(x: Command, w: Which, u: Controller) -> Written
         Command::Flip(k, set) => with_mode(k, u.channel(k).mode.with_flip(set), u),
         Command::HardwareMask(k, set) => with_mode(k, u.channel(k).mode.with_mask(set), u),
         Command::StartChain(k) => start(k, w, u),
-        Command::Unknown => refuse(3, u),
     }
 }
 
-fn is_reset(x: Command) -> bool
+fn is_reset(x: Option<Command>) -> bool
     ensures { result ≡ is_reset x }
 {
+    matches!(x, Some(Command::Reset))
+}
+
+fn carry_out_if_any(x: Option<Command>, w: Which, u: Controller) -> Done<Result<(), Refusal>>
+    ensures { result ≡ obeyed x w u }
+{
     match x {
-        Command::Reset => true,
-        Command::Interrupts {
-            channel: _,
-            set: _,
-            cie: _,
-            ip: _,
-        } => false,
-        Command::SoftwareRequest(_, _) => false,
-        Command::Flip(_, _) => false,
-        Command::HardwareMask(_, _) => false,
-        Command::StartChain(_) => false,
-        Command::Unknown => false,
+        Some(x) => carry_out(x, w, u),
+        None => refuse(Refusal::NoCommand, u),
     }
 }
 
 #[tactic(auto, unfolding(crate::specs::Commands::commanded))]
-pub fn obey(x: Command, w: Which, u: Controller) -> Written
+pub fn obey(x: Option<Command>, w: Which, u: Controller) -> Done<Result<(), Refusal>>
     ensures { result ≡ commanded x w u }
 {
-    if is_reset(x) {
-        return carry_out(x, w, u);
+    if !is_reset(x) & is_busy(u) {
+        return refuse(Refusal::Busy, u);
     }
-    if is_busy(u) {
-        return refuse(2, u);
-    }
-    carry_out(x, w, u)
+    carry_out_if_any(x, w, u)
 }

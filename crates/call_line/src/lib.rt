@@ -2,23 +2,12 @@
 #![tactic(auto)]
 
 ghost use Rattle.std.specs.Prelude.{◌≡◌};
-ghost use Rattle.call_line.specs.Lines.{lined, lined_by, lined_at};
+ghost use Rattle.call_line.specs.Lines.{lined, lined_at};
 
 use channel::Channel;
 use port::Which;
-use step::Controller;
-
-#[derive(Clone, Copy)]
-pub enum LineAnswer {
-    Refused(u8),
-    Taken,
-}
-
-#[derive(Clone, Copy)]
-pub struct Lined {
-    pub state: Controller,
-    pub answer: LineAnswer,
-}
+use refusal::Refusal;
+use step::{Controller, Done};
 
 // An inactive-to-active change is stored in every mode, masked or not.
 #[tactic(auto, unfolding(crate::specs::Lines::lined))]
@@ -31,25 +20,18 @@ fn with_level(active: bool, mut c: Channel) -> Channel
     c
 }
 
-fn with_line(w: Which, active: bool, u: Controller) -> Lined
-    ensures { result ≡ lined_by w active u }
-{
-    Lined {
-        state: u.with_channel(w, with_level(active, u.channel(w))),
-        answer: LineAnswer::Taken,
-    }
-}
-
-#[tactic(auto, using(facts::proofs::Look::look_none), unfolding(crate::specs::Lines::lined_at, facts::specs::Look::look))]
-pub fn line(number: u32, active: bool, u: Controller) -> Lined
+#[tactic(auto, unfolding(crate::specs::Lines::lined_at))]
+pub fn line(number: u32, active: bool, u: Controller) -> Done<Result<(), Refusal>>
     ensures { result ≡ lined_at number active u }
 {
-    match number {
-        1 => with_line(Which::One, active, u),
-        2 => with_line(Which::Two, active, u),
-        _ => Lined {
+    match Which::try_from(number) {
+        Ok(w) => Done {
+            state: u.with_channel(w, with_level(active, u.channel(w))),
+            answer: Ok(()),
+        },
+        Err(r) => Done {
             state: u,
-            answer: LineAnswer::Refused(10),
+            answer: Err(r),
         },
     }
 }

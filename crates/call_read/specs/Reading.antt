@@ -1,27 +1,25 @@
 -- Document 01, "Registers": what is read at the pointer. Assumes nothing.
-use Rattle.std.specs.Prelude.{ℕ, Bool, false, not, ◌&&◌}
+use Rattle.std.specs.Prelude.{ℕ, Bool, false, not, ◌&&◌, None, Option, Some, Result, Ok, Err}
+use Rattle.refusal.specs.declared.Refusal.{Refusal}
+use Rattle.refusal.specs.declared.Refusal.TheVariants.{NoRegister}
 use Rattle.port.specs.declared.Which.{Which}
 use Rattle.port.specs.declared.Register.{Register}
 use Rattle.port.specs.declared.Register.TheVariants.{CurrentAUpper, CurrentALower, CurrentBUpper, CurrentBLower, BaseAUpper, BaseALower, BaseBUpper, BaseBLower, CurrentCount, BaseCount, Pattern, Mask, Vector, ModeLow, ChainUpper, ChainLower}
 use Rattle.port.specs.Ports.{is_other}
 use Rattle.port_read.specs.declared.ReadPort.{ReadPort}
-use Rattle.port_read.specs.declared.ReadPort.TheVariants.{MasterMode, Status, Save, ModeHigh, Of, Nowhere}
+use Rattle.port_read.specs.declared.ReadPort.TheVariants.{MasterMode, Status, Save, ModeHigh, Of}
 use Rattle.port_read.specs.Readable.{read_port}
 use Rattle.word_status.specs.Status.{status_word}
 use Rattle.channel.specs.declared.Channel.{Channel}
 use Rattle.channel.specs.Candidate.{is_candidate}
 use Rattle.channel.specs.Ending.{flags_of}
-use Rattle.step_bus.specs.declared.Bus.{Bus}
-use Rattle.step_bus.specs.declared.Bus.TheVariants.{Free, Kept}
 use Rattle.step.specs.declared.Controller.{Controller}
 use Rattle.step.specs.Controller.{at}
-use Rattle.call_read.specs.declared.Reading.{Reading}
-use Rattle.call_read.specs.declared.Reading.TheVariants.{Refused, Value}
 
 -- WFB is being a candidate that doesn't keep the bus.
-abbrev pub keeps_bus : Which → Bus → Bool
-keeps_bus w Free = false
-keeps_bus w (Kept k) = not (is_other w k)
+abbrev pub keeps_bus : Which → Option Which → Bool
+keeps_bus w None = false
+keeps_bus w (Some k) = not (is_other w k)
 
 unfoldable pub waits_for_bus : Which → Controller → Bool
 waits_for_bus w u = is_candidate (at w u) && not (keeps_bus w u.control.bus)
@@ -44,14 +42,17 @@ register_read ModeLow c = c.mode.low
 register_read ChainUpper c = c.chain.upper
 register_read ChainLower c = c.chain.lower
 
--- 1: no register at the pointer for this direction.
-abbrev pub read_by : ReadPort → Controller → Reading
-read_by MasterMode u = Value u.master
-read_by (Status w) u = Value (status_word (flags_of (waits_for_bus w u) (at w u)))
-read_by (Save w) u = Value (at w u).interrupt.save
-read_by (ModeHigh w) u = Value (at w u).mode.high
-read_by (Of w r) u = Value (register_read r (at w u))
-read_by Nowhere u = Refused 1
+abbrev pub value_of : ReadPort → Controller → ℕ
+value_of MasterMode u = u.master
+value_of (Status w) u = status_word (flags_of (waits_for_bus w u) (at w u))
+value_of (Save w) u = (at w u).interrupt.save
+value_of (ModeHigh w) u = (at w u).mode.high
+value_of (Of w r) u = register_read r (at w u)
 
-unfoldable pub read_of : Controller → Reading
+-- 1: no register at the pointer for this direction.
+abbrev pub read_by : Option ReadPort → Controller → Result ℕ Refusal
+read_by None u = Err NoRegister
+read_by (Some p) u = Ok (value_of p u)
+
+unfoldable pub read_of : Controller → Result ℕ Refusal
 read_of u = read_by (read_port u.pointer) u

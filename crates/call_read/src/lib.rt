@@ -2,27 +2,18 @@
 #![tactic(auto)]
 
 ghost use Rattle.std.specs.Prelude.{◌≡◌};
-ghost use Rattle.call_read.specs.Reading.{keeps_bus, waits_for_bus, register_read, read_of};
+ghost use Rattle.call_read.specs.Reading.{keeps_bus, waits_for_bus, register_read, value_of, read_of};
 
 use channel::Channel;
 use port::{Register, Which};
 use port_read::ReadPort;
+use refusal::Refusal;
 use step::Controller;
-use step_bus::Bus;
 
-#[derive(Clone, Copy)]
-pub enum Reading {
-    Refused(u8),
-    Value(u16),
-}
-
-fn keeps_bus(w: Which, bus: Bus) -> bool
+fn keeps_bus(w: Which, bus: Option<Which>) -> bool
     ensures { result ≡ keeps_bus w bus }
 {
-    match bus {
-        Bus::Free => false,
-        Bus::Kept(k) => !port::is_other(w, k),
-    }
+    bus == Some(w)
 }
 
 // WFB: a candidate that does not keep the bus.
@@ -59,17 +50,22 @@ fn register_read(r: Register, c: Channel) -> u16
     }
 }
 
+fn value_at(port: ReadPort, u: Controller) -> u16
+    ensures { result ≡ value_of port u }
+{
+    match port {
+        ReadPort::MasterMode => u.master,
+        ReadPort::Status(w) => u.channel(w).flags(waits_for_bus(w, u)).status(),
+        ReadPort::Save(w) => u.channel(w).interrupt.save,
+        ReadPort::ModeHigh(w) => u.channel(w).mode.high,
+        ReadPort::Of(w, r) => register_read(r, u.channel(w)),
+    }
+}
+
 #[tactic(auto, unfolding(crate::specs::Reading::read_of))]
-pub fn read(u: Controller) -> Reading
+pub fn read(u: Controller) -> Result<u16, Refusal>
     ensures { result ≡ read_of u }
 {
-    let port = port_read::read_port(u.pointer);
-    match port {
-        ReadPort::MasterMode => Reading::Value(u.master),
-        ReadPort::Status(w) => Reading::Value(u.channel(w).flags(waits_for_bus(w, u)).status()),
-        ReadPort::Save(w) => Reading::Value(u.channel(w).interrupt.save),
-        ReadPort::ModeHigh(w) => Reading::Value(u.channel(w).mode.high),
-        ReadPort::Of(w, r) => Reading::Value(register_read(r, u.channel(w))),
-        ReadPort::Nowhere => Reading::Refused(1),
-    }
+    let port = port_read::read_port(u.pointer).ok_or(Refusal::NoRegister)?;
+    Ok(value_at(port, u))
 }

@@ -1,17 +1,14 @@
 -- Document 01, "Registers": Reset, and a fresh controller. Assumes nothing.
-use Rattle.std.specs.Prelude.{false}
+use Rattle.std.specs.Prelude.{false, None}
 use Rattle.word_address.specs.declared.Address.{Address}
 use Rattle.word_address.specs.declared.Set.{Set}
 use Rattle.channel.specs.declared.Channel.{Channel}
 use Rattle.channel.specs.Reset.{reset_channel}
 use Rattle.step_bus.specs.declared.Control.{Control}
-use Rattle.step_bus.specs.declared.Chain.TheVariants.{NoChain}
-use Rattle.step_bus.specs.declared.Bus.TheVariants.{Free}
-use Rattle.step_bus.specs.declared.Served.TheVariants.{Nobody}
 use Rattle.step.specs.declared.Controller.{Controller}
 
 abbrev pub quiet : Control
-quiet = record { chain = NoChain; bus = Free; note = false; served = Nobody }
+quiet = record { chain = None; bus = None; note = false; served = None }
 
 -- Reset clears master mode, drops any chain, kept bus and give-back note, and makes "served last" none; the pointer stays.
 unfoldable pub reset_of : Controller → Controller

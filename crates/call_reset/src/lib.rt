@@ -7,7 +7,7 @@ ghost use Rattle.call_reset.specs.Reset.{reset_of, no_register, no_set, no_chann
 use channel::{Channel, Interrupt, Status};
 use channel_request::Line;
 use step::Controller;
-use step_bus::{Bus, Chain, Control, Served};
+use step_bus::Control;
 use word_address::{Address, Set};
 use word_mode::{Mode, Reasons};
 
@@ -19,10 +19,10 @@ pub fn reset(u: Controller) -> Controller
         pointer: u.pointer,
         master: 0,
         control: Control {
-            chain: Chain::NoChain,
-            bus: Bus::Free,
+            chain: None,
+            bus: None,
             note: false,
-            served: Served::Nobody,
+            served: None,
         },
         one: u.one.reset(),
         two: u.two.reset(),
@@ -92,10 +92,10 @@ pub fn fresh() -> Controller
         pointer: 0,
         master: 0,
         control: Control {
-            chain: Chain::NoChain,
-            bus: Bus::Free,
+            chain: None,
+            bus: None,
             note: false,
-            served: Served::Nobody,
+            served: None,
         },
         one: no_channel(),
         two: no_channel(),

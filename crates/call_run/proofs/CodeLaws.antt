@@ -6,6 +6,7 @@ use mathlib.Core.Bool.{Bool, true, false}
 use mathlib.Core.List.{List}
 use lib.ListN.{length}
 use borrow.Author.Tests.{lt-ltb, le-ltb}
+use Rattle.refusal.specs.declared.Refusal.TheVariants.{LongRun}
 use Rattle.space.specs.Space.{Spaces, spaces}
 use Rattle.step.specs.declared.Controller.{Controller}
 use Rattle.step.specs.declared.Answer.{Answer}
@@ -40,7 +41,7 @@ pub whole : (n : ℕ) (u : Controller) (z : Spaces) → n ≤ 65536 → advance_
 unfolding advance_of run_of
 whole n u z h = rw (le-ltb 65536 n h)
 
-pub refused : (n : ℕ) (u : Controller) (z : Spaces) → 65536 < n → record { last = outcome (says u (Refused 11)) z; steps = 0 } ≡ run_of n u z
+pub refused : (n : ℕ) (u : Controller) (z : Spaces) → 65536 < n → record { last = outcome (says u (Refused LongRun)) z; steps = 0 } ≡ run_of n u z
 unfolding run_of
 refused n u z h = rw (lt-ltb 65536 n h)
 

@@ -4,6 +4,7 @@ use native.Mathlib.Omega.{arith}
 use native.Mathlib.Numerals.{add-one}
 use mathlib.Core.Path.{◌≡◌, refl, sym, ap, subst, ◌∙◌}
 use mathlib.Core.Bool.{Bool, true, false, not, cond, ◌&&◌, ◌||◌, true≢false}
+use Rattle.std.specs.Prelude.{None, Option, Some}
 use Rattle.facts.specs.Rows.{Row, Repeats, in_a_row}
 use Rattle.facts.proofs.Rows.{counted}
 use Rattle.port.specs.declared.Which.{Which}
@@ -17,14 +18,12 @@ use Rattle.unit_stride.specs.Units.{is_dedicated, after, follows, UnitAt, UnitDo
 use Rattle.port.specs.Ports.{other}
 use Rattle.channel.specs.declared.Channel.{Channel}
 use Rattle.word_reload.specs.declared.Stage.{Stage}
-use Rattle.word_reload.specs.declared.Next.{Next}
-use Rattle.word_reload.specs.declared.Next.TheVariants.{More, Complete}
 use Rattle.chain.specs.declared.Loaded.{Loaded}
 use Rattle.chain_stride.specs.Fetches.{goes_on, stage_after, FetchAt, fetch_turns}
 use Rattle.step_rules.specs.declared.Choice.{Choice}
 use Rattle.step_rules.specs.declared.Choice.TheVariants.{Disabled, Refused, Fetch, GiveBack, Unit, Hold, Release, Idle}
 use Rattle.step.specs.declared.Controller.{Controller}
-use Rattle.step.specs.declared.Stepped.{Stepped}
+use Rattle.step.specs.declared.Done.{Done}
 use Rattle.step.specs.declared.Answer.{Answer}
 use Rattle.step.specs.Controller.{at}
 use Rattle.space_board.specs.declared.Board.{Board}
@@ -38,6 +37,7 @@ use Rattle.step_stride.specs.Stride.{take_turns, pair_of, rested, unit_done, uni
 use Rattle.step_stride.proofs.StrideLaws.{fetched_on, at_fetched, fetch_again, fetch_joins, unrested, one_unit}
 use Rattle.step_stride.proofs.PairLaws.{flows, goes, gone_by, leaves, passes, flows_on, comes, joins}
 use Rattle.call_run.specs.Run.{stops, next_by, advanced}
+use Rattle.word_reload.specs.declared.Progress.{Progress}
 
 -- ---- one step, at the numbers that a loop has
 
@@ -120,7 +120,7 @@ module _ (b : Board) (both : Bool) (u : Controller) where
       let v = o.stepped.state in
       let k = worked (work_of (at w v)) o.spaces in
       sym (λ i. outcome (unit_of w false (rested (other w) s.pair.other u) (worked (p.pair i).work (p.spaces i)).moved) (worked (p.pair i).work (p.spaces i)).spaces)
-      ∙ sym (ap (λ (y : Stepped). outcome y k.spaces) (as_one s o p k.moved))
+      ∙ sym (ap (λ (y : Done Answer). outcome y k.spaces) (as_one s o p k.moved))
       ∙ unit_step w false v o.spaces p.chosen
 
   unit_next : (s : UnitAt) (o : Outcome) → Units b both u s o → (unit_turns b both).follows s ((unit_turns b both).result s) ≡ true
@@ -130,7 +130,7 @@ module _ (b : Board) (both : Bool) (u : Controller) where
       let v = o.stepped.state in
       let m = (worked s.pair.work s.spaces).moved in
       let g = goes b m (after both (pair_of w v) m).work (ap (λ (q : Pair). follows b m (after both q m).work) p.pair ∙ f) in
-      let there : (unit_of w false (rested (other w) s.pair.other u) m).state ≡ gone_by both w v m = ap (λ (y : Stepped). y.state) (sym (as_one s o p m) ∙ leaves w v m both p.flows g.0) in
+      let there : (unit_of w false (rested (other w) s.pair.other u) m).state ≡ gone_by both w v m = ap (λ (y : Done Answer). y.state) (sym (as_one s o p m) ∙ leaves w v m both p.flows g.0) in
       let kept = same_board (worked_size s.pair.work s.spaces) ∙ sym (ap board_of p.spaces) ∙ p.board in
       let next : after both s.pair m ≡ after both (pair_of w v) m = sym (ap (λ (q : Pair). after both q m) p.pair) in
       record {
@@ -164,7 +164,7 @@ module _ (w : Which) (u : Controller) (z : Spaces) where
       let v = o.stepped.state in
       let k : (fetch_turns z.memory).result s ≡ (fetch_turns z.memory).result (record { stage = s.stage; channel = at w v }) = sym (λ i. (fetch_turns z.memory).result (record { stage = s.stage; channel = p.channel i })) in
       ap fetch_out k
-      ∙ sym (ap (λ (y : Stepped). outcome y z) (p.same ((fetch_turns z.memory).result (record { stage = s.stage; channel = at w v }))))
+      ∙ sym (ap (λ (y : Done Answer). outcome y z) (p.same ((fetch_turns z.memory).result (record { stage = s.stage; channel = at w v }))))
       ∙ fetch_step v s.stage (sym (ap (λ (x : Spaces). choice (board_of x) v) p.spaces) ∙ p.chosen)
       ∙ sym (ap (step_of false v) p.spaces)
 
@@ -172,18 +172,18 @@ module _ (w : Which) (u : Controller) (z : Spaces) where
       → Fetches w u z ((fetch_turns z.memory).next s ((fetch_turns z.memory).result s)) (fetch_out ((fetch_turns z.memory).result s))
   fetch_next s o p f = let l = (fetch_turns z.memory).result s in by_next l.channel l.next l.upper f
     where
-      by_next : (c : Channel) (n : Next) (k : Bool) → goes_on n ≡ true
+      by_next : (c : Channel) (n : Option Progress) (k : Bool) → goes_on n ≡ true
           → Fetches w u z (record { stage = stage_after n s.stage; channel = c }) (fetch_out (record { channel = c; next = n; upper = k }))
-      by_next c (More q) k g =
+      by_next c (Some q) k g =
           let v = o.stepped.state in
-          let there : after_word w c (More q) u ≡ fetched_on w v c q = ap (λ (y : Stepped). y.state) (sym (p.same (record { channel = c; next = More q; upper = k }))) in
+          let there : after_word w c (Some q) u ≡ fetched_on w v c q = ap (λ (y : Done Answer). y.state) (sym (p.same (record { channel = c; next = Some q; upper = k }))) in
           record {
             chosen = ap (choice (board_of z)) there ∙ fetch_again w v c q (board_of z) s.stage (sym (ap (λ (x : Spaces). choice (board_of x) v) p.spaces) ∙ p.chosen);
             channel = ap (at w) there ∙ at_fetched w v c q;
             spaces = refl;
             same = λ l. ap (fetched_by w l) there ∙ fetch_joins w v c q l ∙ p.same l;
           }
-      by_next c Complete k g = absurd (true≢false (sym g))
+      by_next c None k g = absurd (true≢false (sym g))
 
 -- ---- a stride
 
@@ -254,7 +254,7 @@ module _ (N k : ℕ) (u : Controller) (a : Answer) (z : Spaces) (h : k < N) wher
   by_choice : (eop : Bool) (c : Choice) → choice (board_of z) u ≡ c → Strides eop N k from (stride_by c (N - k) eop u z)
   unfolding stride_by
   by_choice eop Disabled e = alone eop Disabled e
-  by_choice eop (Refused n) e = alone eop (Refused n) e
+  by_choice eop (Refused r) e = alone eop (Refused r) e
   by_choice eop (Fetch w stage) e = by_eop eop w stage e
   by_choice eop GiveBack e = alone eop GiveBack e
   by_choice eop (Unit w) e = by_limit eop w e (take_turns u) refl (is_dedicated (request_mode_of (at w u).mode)) refl

@@ -1,5 +1,6 @@
 -- Document 01, "Refusal numbers": a run of up to 65,536 steps without EOP. Assumes nothing.
 use Rattle.std.specs.Prelude.{ℕ, zero, suc, Bool, true, false, cond, ltb}
+use Rattle.refusal.specs.declared.Refusal.TheVariants.{LongRun}
 use Rattle.space.specs.Space.{Spaces}
 use Rattle.step.specs.declared.Controller.{Controller}
 use Rattle.step.specs.declared.Answer.{Answer}
@@ -8,7 +9,7 @@ use Rattle.step.specs.Step.{Outcome, outcome, RunOutcome, says, step_of}
 
 -- Run stops on a refusal, "idle", "disabled" or "holding".
 abbrev pub stops : Answer → Bool
-stops (Refused n) = true
+stops (Refused r) = true
 stops Disabled = true
 stops Idle = true
 stops (GivenBack b) = false
@@ -43,4 +44,4 @@ run_from = advanced false
 -- 11: run of more than 65,536.
 unfoldable pub run_of : ℕ → Controller → Spaces → RunOutcome
 run_of budget u z =
-    cond (ltb 65536 budget) (record { last = outcome (says u (Refused 11)) z; steps = 0 }) (run_from budget 0 (outcome (says u Idle) z))
+    cond (ltb 65536 budget) (record { last = outcome (says u (Refused LongRun)) z; steps = 0 }) (run_from budget 0 (outcome (says u Idle) z))

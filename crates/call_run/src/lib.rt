@@ -6,22 +6,16 @@ ghost use Rattle.space.specs.Space.{spaces};
 ghost use Rattle.step.specs.Step.{ran_as};
 ghost use Rattle.call_run.specs.Run.{stops, advance_of, run_of};
 
+use refusal::Refusal;
 use step::{Answer, Controller, Ran};
 
 fn is_stop(a: Answer) -> bool
     ensures { result ≡ stops a }
 {
-    match a {
-        Answer::Refused(_) => true,
-        Answer::Disabled => true,
-        Answer::Idle => true,
-        Answer::GivenBack(_) => false,
-        Answer::Holding(_) => true,
-        Answer::Fetched(_, _) => false,
-        Answer::Dropped(_) => false,
-        Answer::Unit(_, _) => false,
-        Answer::Ended(_) => false,
-    }
+    matches!(
+        a,
+        Answer::Refused(_) | Answer::Disabled | Answer::Idle | Answer::Holding(_)
+    )
 }
 
 // Up to a budget of steps, with EOP given at each or at none. What is linked from C has its only call of the stride here, so that the
@@ -32,6 +26,7 @@ pub fn advance(u: Controller, budget: u32, eop: bool, memory: &mut [u8], io: &mu
     let mut state = u;
     let mut answer = Answer::Idle;
     let mut done: u32 = 0;
+    // No for: a turn takes as many steps as its stride made, and their count is the answer.
     while done < budget {
         let next = step_stride::stride(state, budget - done, eop, memory, io);
         state = next.state;
@@ -60,7 +55,7 @@ pub fn run(u: Controller, budget: u32, memory: &mut [u8], io: &mut [u8]) -> Ran
     if 65536 < budget {
         return Ran {
             state: u,
-            answer: Answer::Refused(11),
+            answer: Answer::Refused(Refusal::LongRun),
             steps: 0,
         };
     }

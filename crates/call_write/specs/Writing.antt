@@ -1,9 +1,10 @@
 -- Document 01, "Registers": what a register write does, and refusals 1 and 2 in their order. Assumes nothing.
-use Rattle.std.specs.Prelude.{ℕ, ◌%◌, Bool, true, false}
+use Rattle.std.specs.Prelude.{ℕ, ◌%◌, Bool, true, false, Option, None, Some}
+use Rattle.refusal.specs.declared.Refusal.TheVariants.{NoRegister}
 use Rattle.port.specs.declared.Register.{Register}
 use Rattle.port.specs.declared.Register.TheVariants.{CurrentAUpper, CurrentALower, CurrentBUpper, CurrentBLower, BaseAUpper, BaseALower, BaseBUpper, BaseBLower, CurrentCount, BaseCount, Pattern, Mask, Vector, ModeLow, ChainUpper, ChainLower}
 use Rattle.port_write.specs.declared.WritePort.{WritePort}
-use Rattle.port_write.specs.declared.WritePort.TheVariants.{MasterMode, Command, Of, Nowhere}
+use Rattle.port_write.specs.declared.WritePort.TheVariants.{MasterMode, Command, Of}
 use Rattle.port_write.specs.Writable.{write_port}
 use Rattle.word_reload.specs.declared.Entry.TheVariants as entry
 use Rattle.channel.specs.declared.Channel.{Channel}
@@ -13,8 +14,7 @@ use Rattle.word_command.specs.Command.{command_of}
 use Rattle.step.specs.declared.Controller.{Controller}
 use Rattle.step.specs.Controller.{at, with}
 use Rattle.step.specs.Set.{◌⟨master≔◌⟩}
-use Rattle.call_command.specs.declared.Written.{Written}
-use Rattle.call_command.specs.Commands.{refuses, takes, unless_busy, is_busy, commanded}
+use Rattle.call_command.specs.Commands.{Written, refuses, takes, unless_busy, is_busy, commanded}
 
 -- Writing either chain word by the CPU clears CA.
 unfoldable pub chain_written : Bool → ℕ → Channel → Channel
@@ -39,11 +39,11 @@ register_written ChainUpper w c = chain_written false w c
 register_written ChainLower w c = chain_written true w c
 
 -- 1: no register at the pointer for this direction. Master mode keeps bits 3-0. A command has its own exception to 2.
-abbrev pub write_by : WritePort → ℕ → Controller → Written
-write_by MasterMode w u = unless_busy (is_busy u) u (takes (u ⟨master≔ w % 16 ⟩))
-write_by (Command k) w u = commanded (command_of w) k u
-write_by (Of k r) w u = unless_busy (is_busy u) u (takes (with k (register_written r w (at k u)) u))
-write_by Nowhere w u = refuses 1 u
+abbrev pub write_by : Option WritePort → ℕ → Controller → Written
+write_by (Some MasterMode) w u = unless_busy (is_busy u) u (takes (u ⟨master≔ w % 16 ⟩))
+write_by (Some (Command k)) w u = commanded (command_of w) k u
+write_by (Some (Of k r)) w u = unless_busy (is_busy u) u (takes (with k (register_written r w (at k u)) u))
+write_by None w u = refuses NoRegister u
 
 unfoldable pub write_of : ℕ → Controller → Written
 write_of w u = write_by (write_port u.pointer) w u

@@ -5,13 +5,12 @@ use Prim.Native.Nat.{ℕ, suc, ◌%◌, ◌<◌}
 use native.Mathlib.Omega.{arith}
 use lib.Dec.{eqb}
 use borrow.Author.Tests.{eqb-true, eqb-false}
+use Rattle.std.specs.Prelude.{Option, Some}
 use Rattle.word_tag.specs.Tag.{kept_chain}
 use Rattle.word_reload.specs.declared.Entry.{Entry}
 use Rattle.word_reload.specs.declared.Progress.{Progress}
 use Rattle.word_reload.specs.declared.Stage.{Stage}
 use Rattle.word_reload.specs.declared.Stage.TheVariants.{Reload, Entries}
-use Rattle.word_reload.specs.declared.Next.{Next}
-use Rattle.word_reload.specs.declared.Next.TheVariants.{More}
 use Rattle.word_reload.specs.Reload.{entry_of, rest_of, is_pair, words_of}
 use Rattle.word_reload.specs.Length.{words_left, words_from, words_after, Proper, ProperStage, ProperNext}
 use Rattle.word_reload.proofs.Length.{some_words, words_low, rest_lt, words_by, left_by_lem}
@@ -19,7 +18,7 @@ use Rattle.channel.specs.declared.Channel.{Channel}
 use Rattle.chain.specs.Chaining.{goes_on, next_of, is_chain_address, load_reload, load_first_by, load_last_by, load_entry_by, load_entry, fetched_of}
 
 -- what follows a fetch, where there were so many words before it
-pub record Follows (words : ℕ) (n : Next) : Type 0 where
+pub record Follows (words : ℕ) (n : Option Progress) : Type 0 where
   pub falls : suc (words_after n) ≡ words
   pub proper : ProperNext n
 
@@ -42,7 +41,7 @@ module _ (p : Progress) (h : Proper p) (w : ℕ) (c : Channel) where
   abbrev e : Entry
   e = entry_of p.left
 
-  second_comes : is_pair e ≡ true → p.second ≡ false → (upper : ℕ) → Follows (words_left p) (More (record { left = p.left; second = true; upper = upper }))
+  second_comes : is_pair e ≡ true → p.second ≡ false → (upper : ℕ) → Follows (words_left p) (Some (record { left = p.left; second = true; upper = upper }))
   second_comes i s upper = record {
     falls = omega (arith, words_by p h true i, left_by_lem p h false s, some_words (rest_of p.left));
     proper = record { some = h.some; bits = h.bits; pair = λ x. i };

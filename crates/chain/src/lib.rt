@@ -6,13 +6,13 @@ ghost use Rattle.word_reload.specs.declared.Entry.TheVariants.{ChainAddress};
 ghost use Rattle.chain.specs.Chaining.{is_chain_address, advanced, changes_upper, next_of, load_reload, after_register, load_entry, load_of, settled_by, fetched_of, dropped_of};
 
 use channel::Channel;
-use word_reload::{Entry, Next, Progress, Stage};
+use word_reload::{Entry, Progress, Stage};
 
 // A channel after a word of its chain, what comes next, and whether bits 23-16 of the chain address changed.
 #[derive(Clone, Copy)]
 pub struct Loaded {
     pub channel: Channel,
-    pub next: Next,
+    pub next: Option<Progress>,
     pub upper: bool,
 }
 
@@ -26,19 +26,7 @@ struct Advanced {
 fn is_chain_address(e: Entry) -> bool
     ensures { result ≡ is_chain_address e }
 {
-    match e {
-        Entry::CurrentA => false,
-        Entry::CurrentB => false,
-        Entry::CurrentCount => false,
-        Entry::BaseA => false,
-        Entry::BaseB => false,
-        Entry::BaseCount => false,
-        Entry::PatternAndMask => false,
-        Entry::Vector => false,
-        Entry::Mode => false,
-        Entry::ChainAddress => true,
-        Entry::Nothing => false,
-    }
+    e == Entry::ChainAddress
 }
 
 #[tactic(auto, unfolding(crate::specs::Chaining::advanced, crate::specs::Chaining::changes_upper))]
@@ -55,13 +43,13 @@ fn advance(mut c: Channel) -> Advanced
 }
 
 #[tactic(auto, unfolding(crate::specs::Chaining::next_of))]
-fn what_next(left: u16) -> Next
+fn what_next(left: u16) -> Option<Progress>
     ensures { result ≡ next_of left }
 {
     if left == 0 {
-        Next::Complete
+        None
     } else {
-        Next::More(Progress {
+        Some(Progress {
             left,
             second: false,
             upper: 0,
@@ -100,7 +88,7 @@ fn load_address(p: Progress, w: u16, mut c: Channel) -> Loaded
     let channel = on.channel;
     Loaded {
         channel,
-        next: Next::More(Progress {
+        next: Some(Progress {
             left: p.left,
             second: true,
             upper: word_tag::kept_chain(w),
@@ -110,11 +98,11 @@ fn load_address(p: Progress, w: u16, mut c: Channel) -> Loaded
 }
 
 // A first word of two is followed by the second, any other by the next entry.
-fn after_register(e: Entry, p: Progress) -> Next
+fn after_register(e: Entry, p: Progress) -> Option<Progress>
     ensures { result ≡ after_register e p }
 {
     if e.has_two() & !p.second {
-        Next::More(Progress {
+        Some(Progress {
             left: p.left,
             second: true,
             upper: 0,
@@ -149,12 +137,12 @@ fn load(stage: Stage, w: u16, c: Channel) -> Loaded
 }
 
 // The last fetch of a chain clears the stored change.
-fn settle(next: Next, mut c: Channel) -> Channel
+fn settle(next: Option<Progress>, mut c: Channel) -> Channel
     ensures { result ≡ settled_by next c }
 {
     match next {
-        Next::More(_) => c,
-        Next::Complete => {
+        Some(_) => c,
+        None => {
             c.line.change = false;
             c
         }

@@ -4,6 +4,7 @@ use mathlib.Core.Path.{◌≡◌, refl, sym, ap, subst, ◌∙◌}
 use mathlib.Core.Bool.{Bool, true, false, ◌&&◌}
 use mathlib.Core.List.{List}
 use lib.Dec.{ltb}
+use Rattle.std.specs.Prelude.{None, Option, Some}
 use Rattle.facts.specs.Rows.{Row}
 use Rattle.facts.proofs.Rows.{LoopAt, begun, on_yet, all_done, turn}
 use Rattle.space.specs.declared.Width.TheVariants.{Word}
@@ -13,13 +14,11 @@ use Rattle.channel.specs.declared.Channel.{Channel}
 use Rattle.word_reload.specs.declared.Progress.{Progress}
 use Rattle.word_reload.specs.declared.Stage.{Stage}
 use Rattle.word_reload.specs.declared.Stage.TheVariants.{Entries}
-use Rattle.word_reload.specs.declared.Next.{Next}
-use Rattle.word_reload.specs.declared.Next.TheVariants.{More, Complete}
 use Rattle.chain.specs.declared.Loaded.{Loaded}
 use Rattle.chain.specs.Chaining.{fetched_of}
 use Rattle.chain_stride.specs.Fetches.{goes_on, stage_after, fetch_turns, fetches_of}
 
-pub record FetchLoop (limit : ℕ) (m : List ℕ) (c₀ : Channel) (s₀ : Stage) (c : Channel) (s : Stage) (n : Next) (x : Bool) (k : ℕ) (on : Bool) : Type 0 where
+pub record FetchLoop (limit : ℕ) (m : List ℕ) (c₀ : Channel) (s₀ : Stage) (c : Channel) (s : Stage) (n : Option Progress) (x : Bool) (k : ℕ) (on : Bool) : Type 0 where
   pub reached : LoopAt (fetch_turns m) (limit - 1) (fetches_of m (limit - 1) 0 s₀ c₀) on k (record { stage = s; channel = c }) (record { channel = c; next = n; upper = x })
 
 and_true : (b : Bool) → (b && true) ≡ b
@@ -30,10 +29,10 @@ and_false : (b : Bool) → (b && false) ≡ false
 and_false true = refl
 and_false false = refl
 
-pub starts : (limit : ℕ) (m : List ℕ) (c : Channel) (s : Stage) (n : Next) (x : Bool) → FetchLoop limit m c s c s n x 0 true
+pub starts : (limit : ℕ) (m : List ℕ) (c : Channel) (s : Stage) (n : Option Progress) (x : Bool) → FetchLoop limit m c s c s n x 0 true
 starts limit m c s n x = record { reached = begun (fetch_turns m) (limit - 1) (record { stage = s; channel = c }) }
 
-module _ (limit : ℕ) (m : List ℕ) (c₀ : Channel) (s₀ : Stage) (c : Channel) (s : Stage) (n : Next) (x : Bool) (i : ℕ) (on : Bool) (g : FetchLoop limit m c₀ s₀ c s n x i on) where
+module _ (limit : ℕ) (m : List ℕ) (c₀ : Channel) (s₀ : Stage) (c : Channel) (s : Stage) (n : Option Progress) (x : Bool) (i : ℕ) (on : Bool) (g : FetchLoop limit m c₀ s₀ c s n x i on) where
   abbrev all : Row Loaded
   all = fetches_of m (limit - 1) 0 s₀ c₀
 
@@ -48,18 +47,18 @@ module _ (limit : ℕ) (m : List ℕ) (c₀ : Channel) (s₀ : Stage) (c : Chann
       record { reached = turn (fetch_turns m) limit i all (record { stage = s; channel = c }) l r.0 r.1 k f (record { stage = v; channel = l.channel }) ef (λ j. record { stage = ev j; channel = l.channel }) }
 
   -- the table has more, and the chain is complete
-  pub goes_more : (a w : ℕ) (l : Loaded) (p : Progress) → on ≡ true → a ≡ number c.chain → w ≡ value_in Word m a → l ≡ fetched_of s w c → l.next ≡ More p
-      → FetchLoop limit m c₀ s₀ l.channel (Entries p) (More p) l.upper (i + 1) (ltb (i + 1) limit)
+  pub goes_more : (a w : ℕ) (l : Loaded) (p : Progress) → on ≡ true → a ≡ number c.chain → w ≡ value_in Word m a → l ≡ fetched_of s w c → l.next ≡ Some p
+      → FetchLoop limit m c₀ s₀ l.channel (Entries p) (Some p) l.upper (i + 1) (ltb (i + 1) limit)
   goes_more a w l p e ea ew el en =
-      subst (λ (y : Next). FetchLoop limit m c₀ s₀ l.channel (Entries p) y l.upper (i + 1) (ltb (i + 1) limit)) en
+      subst (λ (y : Option Progress). FetchLoop limit m c₀ s₀ l.channel (Entries p) y l.upper (i + 1) (ltb (i + 1) limit)) en
       (subst (λ (y : Bool). FetchLoop limit m c₀ s₀ l.channel (Entries p) l.next l.upper (i + 1) y) (and_true (ltb (i + 1) limit))
-      (goes a w l true (Entries p) e ea ew el (sym (ap goes_on en)) (sym (ap (λ (y : Next). stage_after y s) en))))
+      (goes a w l true (Entries p) e ea ew el (sym (ap goes_on en)) (sym (ap (λ (y : Option Progress). stage_after y s) en))))
 
-  pub goes_complete : (a w : ℕ) (l : Loaded) → on ≡ true → a ≡ number c.chain → w ≡ value_in Word m a → l ≡ fetched_of s w c → l.next ≡ Complete
+  pub goes_complete : (a w : ℕ) (l : Loaded) → on ≡ true → a ≡ number c.chain → w ≡ value_in Word m a → l ≡ fetched_of s w c → l.next ≡ None
       → FetchLoop limit m c₀ s₀ l.channel s l.next l.upper (i + 1) false
   goes_complete a w l e ea ew el en =
       subst (λ (y : Bool). FetchLoop limit m c₀ s₀ l.channel s l.next l.upper (i + 1) y) (and_false (ltb (i + 1) limit))
-      (goes a w l false s e ea ew el (sym (ap goes_on en)) (sym (ap (λ (y : Next). stage_after y s) en)))
+      (goes a w l false s e ea ew el (sym (ap goes_on en)) (sym (ap (λ (y : Option Progress). stage_after y s) en)))
 
   pub ends : on ≡ false → record { last = record { channel = c; next = n; upper = x }; count = i } ≡ all
   ends e = all_done (fetch_turns m) (limit - 1) all i (record { stage = s; channel = c }) (record { channel = c; next = n; upper = x }) on e g.reached

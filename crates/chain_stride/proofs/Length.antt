@@ -4,12 +4,11 @@ use mathlib.Core.Bool.{cond}
 use mathlib.Core.List.{List}
 use Prim.Native.Nat.{ℕ, zero, suc, ◌+◌, ◌-◌, ◌≤◌, ◌<◌}
 use native.Mathlib.Omega.{arith}
+use Rattle.std.specs.Prelude.{None, Option, Some}
 use Rattle.facts.specs.Rows.{Row, in_a_row}
 use Rattle.word_reload.specs.declared.Progress.{Progress}
 use Rattle.word_reload.specs.declared.Stage.{Stage}
 use Rattle.word_reload.specs.declared.Stage.TheVariants.{Reload, Entries}
-use Rattle.word_reload.specs.declared.Next.{Next}
-use Rattle.word_reload.specs.declared.Next.TheVariants.{More, Complete}
 use Rattle.word_reload.specs.Reload.{words_of}
 use Rattle.word_reload.specs.Length.{words_left, words_from, words_after, Proper, ProperStage, ProperNext}
 use Rattle.word_reload.proofs.Length.{some_left}
@@ -27,15 +26,15 @@ record Counts (words more done : ℕ) (r : Row Loaded) : Type 0 where
   proper : ProperNext r.last.next
 
 -- the chain is complete, or the row goes on
-row_by : (m : List ℕ) (more done words : ℕ) (s : Stage) (l : Loaded) (n : Next) → l.next ≡ n → Follows words n
+row_by : (m : List ℕ) (more done words : ℕ) (s : Stage) (l : Loaded) (n : Option Progress) → l.next ≡ n → Follows words n
     → ((p : Progress) → Proper p → Counts (words_left p) more (suc done) (fetches_of m more (suc done) (Entries p) l.channel))
     → Counts words (suc more) done (cond (goes_on n) (fetches_of m more (suc done) (stage_after n s) l.channel) (record { last = l; count = suc done }))
-row_by m more done words s l Complete e f rest = record {
+row_by m more done words s l None e f rest = record {
   others = ap words_after e ∙ omega (arith, f.falls);
   each = omega (arith, f.falls);
   proper = subst ProperNext (sym e) tt;
 }
-row_by m more done words s l (More p) e f rest =
+row_by m more done words s l (Some p) e f rest =
     let r = rest p f.proper in record { others = r.others ∙ omega (arith, f.falls); each = omega (arith, f.falls, r.each); proper = r.proper }
 
 row : (m : List ℕ) (more done : ℕ) (s : Stage) (c : Channel) → ProperStage s → Counts (words_from s (word_at m c)) more done (fetches_of m more done s c)
@@ -47,13 +46,13 @@ row m (suc more) done s c h =
 
 -- ---- the whole chain, and a part of it
 
-none_after : (n : Next) → ProperNext n → words_after n ≡ 0 → n ≡ Complete
-none_after (More p) h e = absurd (omega (arith, some_left p h))
-none_after Complete h e = refl
+none_after : (n : Option Progress) → ProperNext n → words_after n ≡ 0 → n ≡ None
+none_after (Some p) h e = absurd (omega (arith, some_left p h))
+none_after None h e = refl
 
 pub record PartOfChain (words : ℕ) (r : Row Loaded) : Type 0 where
   pub count : r.count ≡ words
-  pub goes_on_by_rule : r.last.next ≡ Complete → ⊥
+  pub goes_on_by_rule : r.last.next ≡ None → ⊥
 
 module _ (m : List ℕ) (c : Channel) (s : Stage) (h : ProperStage s) (more : ℕ) where
   -- where all of its words may be fetched, they are, and no more

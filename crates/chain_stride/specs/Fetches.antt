@@ -1,5 +1,5 @@
 -- Words of a chain that are fetched one after another: each is a fetch of document 01, "Chaining". Assumes nothing.
-use Rattle.std.specs.Prelude.{ℕ, Bool, true, false, List}
+use Rattle.std.specs.Prelude.{ℕ, Bool, true, false, List, None, Option, Some}
 use Rattle.facts.specs.Rows.{Row, Repeats, in_a_row}
 use Rattle.space.specs.declared.Width.TheVariants.{Word}
 use Rattle.space.specs.Space.{value_in}
@@ -7,19 +7,18 @@ use Rattle.word_address.specs.Address.{number}
 use Rattle.channel.specs.declared.Channel.{Channel}
 use Rattle.word_reload.specs.declared.Stage.{Stage}
 use Rattle.word_reload.specs.declared.Stage.TheVariants.{Entries}
-use Rattle.word_reload.specs.declared.Next.{Next}
-use Rattle.word_reload.specs.declared.Next.TheVariants.{More, Complete}
 use Rattle.chain.specs.declared.Loaded.{Loaded}
 use Rattle.chain.specs.Chaining.{fetched_of}
 use Rattle.chain_stride.specs.declared.Fetched.{Fetched}
+use Rattle.word_reload.specs.declared.Progress.{Progress}
 
-abbrev pub goes_on : Next → Bool
-goes_on (More p) = true
-goes_on Complete = false
+abbrev pub goes_on : Option Progress → Bool
+goes_on (Some p) = true
+goes_on None = false
 
-abbrev pub stage_after : Next → Stage → Stage
-stage_after (More p) stage = Entries p
-stage_after Complete stage = stage
+abbrev pub stage_after : Option Progress → Stage → Stage
+stage_after (Some p) stage = Entries p
+stage_after None stage = stage
 
 -- a channel, and the stage of its chain
 pub record FetchAt : Type 0 where

@@ -6,13 +6,13 @@ ghost use Rattle.chain_stride.specs.Fetches.{fetched_as, fetches_of};
 
 use channel::Channel;
 use space::{MemoryAddress, Width};
-use word_reload::{Next, Stage};
+use word_reload::{Progress, Stage};
 
 // The channel after the last word, what comes next, whether the last changed bits 23-16, and how many words there were.
 #[derive(Clone, Copy)]
 pub struct Fetched {
     pub channel: Channel,
-    pub next: Next,
+    pub next: Option<Progress>,
     pub upper: bool,
     pub words: u32,
 }
@@ -23,10 +23,11 @@ pub fn fetch_on(first: Stage, limit: u32, c: Channel, memory: &[u8]) -> Fetched
 {
     let mut channel = c;
     let mut stage = first;
-    let mut next = Next::Complete;
+    let mut next = None;
     let mut upper = false;
     let mut words: u32 = 0;
     let mut going = true;
+    // No for: a word is fetched whatever the limit, and the count is the answer.
     while going {
         let word = space::read_memory(memory, MemoryAddress(channel.chain.number()), Width::Word);
         let l = chain::fetch(stage, word, channel);
@@ -35,11 +36,11 @@ pub fn fetch_on(first: Stage, limit: u32, c: Channel, memory: &[u8]) -> Fetched
         upper = l.upper;
         words += 1;
         match next {
-            Next::More(p) => {
+            Some(p) => {
                 stage = Stage::Entries(p);
                 going = words < limit;
             }
-            Next::Complete => {
+            None => {
                 going = false;
             }
         }

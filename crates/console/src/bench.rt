@@ -1,6 +1,7 @@
 // The bench: the controller, the two spaces that are lent to it, and the host's calls.
-ghost use Rattle.std.specs.Prelude.{◌≡◌, ◌-◌, ◌≤◌};
+ghost use Rattle.std.specs.Prelude.{◌≡◌, IfOk, OnOk, replicate};
 ghost use Rattle.space.specs.Space.{spaces};
+ghost use Rattle.call_pointer.specs.Pointer.{pointed};
 ghost use Rattle.space_board.specs.Board.{board_of};
 ghost use Rattle.text_print.specs.Text.{written};
 ghost use Rattle.call_write.specs.Writing.{write_of};
@@ -10,318 +11,197 @@ ghost use Rattle.call_acknowledge.specs.Acknowledge.{acknowledge_of};
 ghost use Rattle.console.specs.Calls.{call_of, leaves, advance_of, read_line, why_line};
 
 use crate::print;
-use console_line::{Advance, Input, LentSpace, RegisterCall, Request};
+use console_line::{Advance, LentSpace, RegisterCall, Request};
+use std::alloc::AllocError;
 use std::io;
 use step::Controller;
 use text_print::Text;
 
-// The controller, and how many bytes of each space are lent.
-#[derive(Clone, Copy)]
-pub struct Bench {
-    pub controller: Controller,
-    pub memory: u32,
-    pub io: u32,
-}
+// The most bytes that are lent.
+const MEMORY: usize = 1048576;
 
-pub fn new_bench() -> Bench
-    ensures { result.controller ≡ fresh_of }
-{
-    Bench {
-        controller: call_reset::fresh(),
-        memory: 65536,
-        io: 4096,
-    }
+const IO: usize = 65536;
+
+// The controller, and the bytes of each space that are lent.
+#[derive(Drop)]
+pub struct Bench {
+    controller: Controller,
+    memory: Vec<u8>,
+    io: Vec<u8>,
 }
 
 // ---- the spaces
 
-fn least(a: usize, b: usize) -> usize
-    ensures { (result ≤ a) × (result ≤ b) }
+// What is lent anew is 00; there is room for the most from the start on.
+fn lend(s: &mut Vec<u8>, n: usize) -> Result<(), AllocError>
+    ensures { OnOk result (s.new.items ≡ replicate n 0) }
 {
-    if a < b { a } else { b }
+    s.clear();
+    s.resize(n, 0)
 }
 
-// How many of n bytes from an address on lie inside a space of a size.
-fn inside(at: usize, n: usize, size: usize) -> usize
-    ensures { (result ≤ n) × (result ≤ size - at) }
-{
-    if at < size {
-        return least(n, size - at);
-    }
-    0
+// How many of the bytes have a place in the space.
+fn store(s: &mut [u8], at: usize, bytes: &[u8]) -> usize {
+    let from = at.min(s.len());
+    let n = bytes.len().min(s.len() - from);
+    s[from..from + n].copy_from_slice(&bytes[..n]);
+    n
 }
 
-fn clear(n: usize, s: &mut [u8]) {
-    let cleared = least(n, s.len());
-    let mut i = 0;
-    while i < cleared {
-        s[i] = 0;
-        i += 1;
-    }
-}
-
-fn store(s: &mut [u8], at: usize, n: usize, bytes: &[u8; 64]) -> usize {
-    let stored = inside(at, least(n, 64), s.len());
-    let mut i = 0;
-    while i < stored {
-        s[at + i] = bytes[i];
-        i += 1;
-    }
-    stored
-}
-
-fn show(rt: &impl Print, s: &[u8], at: u32, n: u32) -> io::Result<()> {
-    let from = at as usize;
-    let shown = inside(from, n as usize, s.len());
-    let mut i = 0;
-    while i < shown {
-        let k = least(shown - i, 16);
-        let start = from + i;
-        print::line(rt, console_message::row(start, &s[start..start + k]))?;
-        i += 16;
+fn show(rt: &impl Print, s: &[u8], at: usize, n: usize) -> io::Result<()> {
+    let from = at.min(s.len());
+    let shown = n.min(s.len() - from);
+    for (i, row) in s[from..from + shown].chunks(16).enumerate() {
+        print::line(rt, console_message::row(from + 16 * i, row))?;
     }
     Ok(())
 }
 
-// ---- the calls
-
-// Each leaves the controller, and puts the line that tells its answer in `told`.
-
-fn write(w: u16, u: Controller, told: &mut Text) -> Controller
-    ensures { result ≡ (write_of w u).state }
-{
-    let written = call_write::write(w, u);
-    let answer = written.answer;
-    *told = console_answer::write(answer);
-    written.state
-}
-
-fn read(u: Controller) -> Text
-    ensures { written result ≡ read_line u }
-{
-    console_answer::read(call_read::read(u))
-}
-
-fn line(c: u8, active: bool, u: Controller, told: &mut Text) -> Controller
-    ensures { result ≡ (lined_at c active u).state }
-{
-    let lined = call_line::line(c as u32, active, u);
-    let answer = lined.answer;
-    *told = console_answer::line(c, active, answer);
-    lined.state
-}
-
-fn acknowledge(u: Controller, told: &mut Text) -> Controller
-    ensures { result ≡ (acknowledge_of u).state }
-{
-    let given = call_acknowledge::acknowledge(u);
-    let answer = given.answer;
-    *told = console_answer::acknowledge(answer);
-    given.state
-}
-
-// The controller is left as the model's definitions say.
-#[tactic(auto, unfolding(crate::specs::Calls::call_of))]
-fn make(call: RegisterCall, u: Controller, told: &mut Text) -> Controller
-    ensures { result ≡ call_of call u }
-{
-    match call {
-        RegisterCall::Reset => {
-            *told = console_message::reset();
-            call_reset::reset(u)
-        }
-        RegisterCall::WritePointer(w) => {
-            let next = call_pointer::write_pointer(u, w);
-            *told = console_message::pointer(next.pointer);
-            next
-        }
-        RegisterCall::ReadPointer => {
-            *told = console_message::pointer(u.pointer);
-            u
-        }
-        RegisterCall::Write(w) => write(w, u, told),
-        RegisterCall::Read => {
-            *told = read(u);
-            u
-        }
-        RegisterCall::Set(p, w) => write(w, call_pointer::write_pointer(u, p), told),
-        RegisterCall::Get(p) => {
-            let next = call_pointer::write_pointer(u, p);
-            *told = read(next);
-            next
-        }
-        RegisterCall::Line(c, active) => line(c, active, u, told),
-        RegisterCall::Acknowledge => acknowledge(u, told),
+impl Bench {
+    pub fn new(rt: &impl AllocGlobal) -> Result<Bench, AllocError>
+        ensures { IfOk result (λ b. b.controller ≡ fresh_of) }
+    {
+        let mut memory = Vec::with_capacity(rt.alloc(), MEMORY)?;
+        let mut io = Vec::with_capacity(rt.alloc(), IO)?;
+        lend(&mut memory, 65536)?;
+        lend(&mut io, 4096)?;
+        Ok(Bench {
+            controller: call_reset::fresh(),
+            memory,
+            io,
+        })
     }
-}
 
-// So are the controller and both spaces.
-#[tactic(auto, unfolding(crate::specs::Calls::advance_of))]
-fn go(
-    advance: Advance,
-    u: Controller,
-    memory: &mut [u8],
-    io: &mut [u8],
-    told: &mut Text,
-) -> Controller
-    ensures { leaves result (spaces memory.new io.new) ≡ advance_of advance u (spaces memory.old io.old) }
-{
-    match advance {
-        Advance::Step(eop) => {
-            let stepped = u.step(eop, memory, io);
-            let a = stepped.answer;
-            *told = console_answer::step(a);
-            stepped.state
-        }
-        Advance::Run(n) => {
-            let ran = call_run::run(u, n, memory, io);
-            let a = ran.answer;
-            *told = console_answer::run(ran.steps, a);
-            ran.state
+    // ---- the calls
+
+    // Each gives the line that tells its answer, and leaves the controller as the model's definitions say.
+
+    fn point(&mut self, w: u16)
+        ensures { self.new ≡ record self.old { controller = pointed w self.old.controller } }
+    {
+        self.controller = call_pointer::write_pointer(self.controller, w);
+    }
+
+    fn write(&mut self, w: u16) -> Text
+        ensures { self.new ≡ record self.old { controller = (write_of w self.old.controller).state } }
+    {
+        let written = call_write::write(w, self.controller);
+        self.controller = written.state;
+        console_answer::write(written.answer)
+    }
+
+    fn read(&self) -> Text
+        ensures { written result ≡ read_line self.now.controller }
+    {
+        console_answer::read(call_read::read(self.controller))
+    }
+
+    fn line(&mut self, c: u8, active: bool) -> Text
+        ensures { self.new ≡ record self.old { controller = (lined_at c active self.old.controller).state } }
+    {
+        let lined = call_line::line(c as u32, active, self.controller);
+        self.controller = lined.state;
+        console_answer::line(c, active, lined.answer)
+    }
+
+    fn acknowledge(&mut self) -> Text
+        ensures { self.new ≡ record self.old { controller = (acknowledge_of self.old.controller).state } }
+    {
+        let given = call_acknowledge::acknowledge(self.controller);
+        self.controller = given.state;
+        console_answer::acknowledge(given.answer)
+    }
+
+    #[tactic(auto, unfolding(crate::specs::Calls::call_of))]
+    fn make(&mut self, call: RegisterCall) -> Text
+        ensures { self.new ≡ record self.old { controller = call_of call self.old.controller } }
+    {
+        match call {
+            RegisterCall::Reset => {
+                self.controller = call_reset::reset(self.controller);
+                console_message::reset()
+            }
+            RegisterCall::WritePointer(w) => {
+                self.point(w);
+                console_message::pointer(self.controller.pointer)
+            }
+            RegisterCall::ReadPointer => console_message::pointer(self.controller.pointer),
+            RegisterCall::Write(w) => self.write(w),
+            RegisterCall::Read => self.read(),
+            RegisterCall::Set(p, w) => {
+                self.point(p);
+                self.write(w)
+            }
+            RegisterCall::Get(p) => {
+                self.point(p);
+                self.read()
+            }
+            RegisterCall::Line(c, active) => self.line(c, active),
+            RegisterCall::Acknowledge => self.acknowledge(),
         }
     }
-}
 
-// A look: nothing changes.
-fn why(c: u8, u: Controller, memory: &[u8], io: &[u8]) -> Text
-    ensures { written result ≡ why_line c (board_of (spaces memory.now io.now)) u }
-{
-    let answer = standstill::why(c as u32, space_board::lends(memory, io), u);
-    console_answer::why(c, answer)
-}
-
-// ---- a line
-
-fn poke(
-    space: LentSpace,
-    at: u32,
-    n: usize,
-    bytes: &[u8; 64],
-    memory: &mut [u8],
-    io: &mut [u8],
-) -> Text {
-    match space {
-        LentSpace::Memory => console_message::poked(store(memory, at as usize, n, bytes)),
-        LentSpace::Io => console_message::poked(store(io, at as usize, n, bytes)),
-    }
-}
-
-fn peek(
-    rt: &impl Print,
-    space: LentSpace,
-    at: u32,
-    n: u32,
-    memory: &[u8],
-    io: &[u8],
-) -> io::Result<()> {
-    match space {
-        LentSpace::Memory => show(rt, memory, at, n),
-        LentSpace::Io => show(rt, io, at, n),
-    }
-}
-
-// What is told of a line that makes no call and reaches no space.
-fn tell(rt: &impl Print, request: Request, number: u64, u: Controller) -> io::Result<()> {
-    match request {
-        Request::Unreadable => print::line(rt, console_message::not_understood(number)),
-        Request::TooLarge => print::line(rt, console_message::too_large(number)),
-        Request::State => print::state(rt, u),
-        Request::Help => print::help(rt),
-        _ => Ok(()),
-    }
-}
-
-// What a line asks, over the bytes that are lent.
-fn serve(
-    rt: &impl Print,
-    request: Request,
-    number: u64,
-    bytes: &[u8; 64],
-    u: Controller,
-    memory: &mut [u8],
-    io: &mut [u8],
-) -> io::Result<Controller> {
-    match request {
-        Request::Make(call) => {
-            let mut told = text_print::empty();
-            let next = make(call, u, &mut told);
-            print::line(rt, told)?;
-            Ok(next)
-        }
-        Request::Advance(advance) => {
-            let mut told = text_print::empty();
-            let next = go(advance, u, memory, io, &mut told);
-            print::line(rt, told)?;
-            Ok(next)
-        }
-        Request::Why(c) => {
-            print::line(rt, why(c, u, memory, io))?;
-            Ok(u)
-        }
-        Request::Poke(space, at, n) => {
-            print::line(rt, poke(space, at, n, bytes, memory, io))?;
-            Ok(u)
-        }
-        Request::Peek(space, at, n) => {
-            peek(rt, space, at, n, memory, io)?;
-            Ok(u)
-        }
-        _ => {
-            tell(rt, request, number, u)?;
-            Ok(u)
+    // So are the controller and both spaces.
+    #[tactic(auto, unfolding(crate::specs::Calls::advance_of))]
+    fn advance(&mut self, advance: Advance) -> Text
+        ensures { leaves self.new.controller (spaces self.new.memory.items self.new.io.items) ≡ advance_of advance self.old.controller (spaces self.old.memory.items self.old.io.items) }
+    {
+        match advance {
+            Advance::Step(eop) => {
+                let stepped = self.controller.step(eop, &mut self.memory, &mut self.io);
+                self.controller = stepped.state;
+                console_answer::step(stepped.answer)
+            }
+            Advance::Run(n) => {
+                let ran = call_run::run(self.controller, n, &mut self.memory, &mut self.io);
+                self.controller = ran.state;
+                console_answer::run(ran.steps, ran.answer)
+            }
         }
     }
-}
 
-fn lend(
-    rt: &impl Print,
-    space: LentSpace,
-    n: u32,
-    b: Bench,
-    memory: &mut [u8],
-    io: &mut [u8],
-) -> io::Result<Bench> {
-    print::line(rt, console_message::lent(space, n))?;
-    match space {
-        LentSpace::Memory => {
-            clear(n as usize, memory);
-            Ok(Bench { memory: n, ..b })
-        }
-        LentSpace::Io => {
-            clear(n as usize, io);
-            Ok(Bench { io: n, ..b })
+    // A look: nothing changes.
+    fn why(&self, c: u8) -> Text
+        ensures { written result ≡ why_line c (board_of (spaces self.now.memory.items self.now.io.items)) self.now.controller }
+    {
+        let board = space_board::lends(&self.memory, &self.io);
+        console_answer::why(c, standstill::why(c as u32, board, self.controller))
+    }
+
+    // ---- a line
+
+    fn space(&self, space: LentSpace) -> &Vec<u8> {
+        match space {
+            LentSpace::Memory => &self.memory,
+            LentSpace::Io => &self.io,
         }
     }
-}
 
-// A line is carried out. No more is lent than there is.
-pub fn obey(
-    rt: &impl Print,
-    input: Input,
-    number: u64,
-    bytes: &[u8; 64],
-    b: Bench,
-    memory: &mut [u8],
-    io: &mut [u8],
-) -> io::Result<Bench> {
-    match input {
-        Input::Lend(space, n) => lend(rt, space, n, b, memory, io),
-        Input::Ask(request) => {
-            let m = least(b.memory as usize, memory.len());
-            let i = least(b.io as usize, io.len());
-            let next = serve(
-                rt,
-                request,
-                number,
-                bytes,
-                b.controller,
-                &mut memory[0..m],
-                &mut io[0..i],
-            )?;
-            Ok(Bench {
-                controller: next,
-                ..b
-            })
+    fn space_mut(&mut self, space: LentSpace) -> &mut Vec<u8> {
+        match space {
+            LentSpace::Memory => &mut self.memory,
+            LentSpace::Io => &mut self.io,
+        }
+    }
+
+    // What a line asks is carried out and told.
+    pub fn obey(&mut self, rt: &impl Print, request: Request) -> io::Result<()> {
+        match request {
+            Request::Lend(space, n) => {
+                print::line(rt, console_message::lent(space, n))?;
+                lend(self.space_mut(space), n as usize)?;
+                Ok(())
+            }
+            Request::Make(call) => print::line(rt, self.make(call)),
+            Request::Advance(advance) => print::line(rt, self.advance(advance)),
+            Request::Why(c) => print::line(rt, self.why(c)),
+            Request::Poke(space, at, bytes) => {
+                let n = store(self.space_mut(space), at as usize, bytes.as_slice());
+                print::line(rt, console_message::poked(n))
+            }
+            Request::Peek(space, at, n) => show(rt, self.space(space), at as usize, n as usize),
+            Request::State => print::state(rt, self.controller),
+            Request::Help => print::help(rt),
         }
     }
 }

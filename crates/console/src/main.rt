@@ -4,141 +4,96 @@
 mod bench;
 mod print;
 
+use arrayvec::ArrayVec;
 use bench::Bench;
+use console_line::{LineError, Request};
+use std::alloc::AllocError;
 use std::env::FillError;
 use std::fs::File;
 use std::io;
 use std::io::Read;
 use std::rt::{Env, Files};
 
-// The longest line that is read.
-type Line = [u8; 255];
-
-// The most bytes that are lent.
-const MEMORY: usize = 1048576;
-
-const IO: usize = 65536;
-
-// The bench, how many lines were read, and how many bytes of the next, of which no more than 256 are counted.
-#[derive(Clone, Copy)]
+// The bench, how many lines were read, and the bytes of the next: one more than the longest line has, so that a full one is too long.
+#[derive(Drop)]
 struct Session {
     bench: Bench,
     lines: u64,
-    length: usize,
+    line: ArrayVec<u8, 256>,
 }
 
-fn input_of(line: &[u8], length: usize, bytes: &mut [u8; 64]) -> console_line::Input {
-    if length <= line.len() {
-        return console_line::read_line(&line[0..length], bytes);
+fn tell(rt: &impl Print, error: LineError, number: u64) -> io::Result<()> {
+    match error {
+        LineError::NotUnderstood => print::line(rt, console_message::not_understood(number)),
+        LineError::TooLarge => print::line(rt, console_message::too_large(number)),
     }
-    console_line::Input::Ask(console_line::Request::Unreadable)
 }
 
-fn end_line(
-    rt: &impl Print,
-    line: &Line,
-    s: Session,
-    memory: &mut [u8],
-    io: &mut [u8],
-) -> io::Result<Session> {
-    let mut bytes = [0u8; 64];
-    let lines = std::num::wrapping_add_u64(s.lines, 1);
-    let input = input_of(line, s.length, &mut bytes);
-    let bench = bench::obey(rt, input, lines, &bytes, s.bench, memory, io)?;
-    Ok(Session {
-        bench,
-        lines,
-        length: 0,
-    })
-}
-
-fn add_byte(b: u8, line: &mut Line, mut s: Session) -> Session {
-    let at = s.length;
-    if at < 255 {
-        line[at] = b;
-        s.length = at + 1;
-        return s;
+impl Session {
+    fn new(rt: &impl AllocGlobal) -> Result<Session, AllocError> {
+        Ok(Session {
+            bench: Bench::new(rt)?,
+            lines: 0,
+            line: ArrayVec::new(),
+        })
     }
-    s.length = 256;
-    s
-}
 
-fn take_byte(
-    rt: &impl Print,
-    b: u8,
-    line: &mut Line,
-    s: Session,
-    memory: &mut [u8],
-    io: &mut [u8],
-) -> io::Result<Session> {
-    if b == b'\n' {
-        return end_line(rt, line, s, memory, io);
-    }
-    Ok(add_byte(b, line, s))
-}
-
-fn take_bytes(
-    rt: &impl Print,
-    read: &[u8],
-    line: &mut Line,
-    s: Session,
-    memory: &mut [u8],
-    io: &mut [u8],
-) -> io::Result<Session> {
-    let mut s = s;
-    let mut i = 0;
-    while i < read.len() {
-        s = take_byte(rt, read[i], line, s, memory, io)?;
-        i += 1;
-    }
-    Ok(s)
-}
-
-// A proved loop has to end, and nothing says that the input does: the turns are more than any run uses up.
-fn take_all(
-    rt: &impl Print,
-    input: &mut impl Read,
-    line: &mut Line,
-    s: Session,
-    memory: &mut [u8],
-    io: &mut [u8],
-) -> io::Result<Session> {
-    let mut s = s;
-    let mut turns = u64::MAX;
-    while turns > 0 {
-        let mut buf = [0u8; 4096];
-        let n = input.read(&mut buf)?;
-        if n == 0 {
-            return Ok(s);
+    fn request(&self) -> Result<Option<Request>, LineError> {
+        if self.line.is_full() {
+            return Err(LineError::NotUnderstood);
         }
-        s = take_bytes(rt, &buf[..n], line, s, memory, io)?;
-        turns -= 1;
+        console_line::read_line(self.line.as_slice())
     }
-    Ok(s)
+
+    fn end_line(&mut self, rt: &impl Print) -> io::Result<()> {
+        self.lines = self.lines.wrapping_add(1);
+        let request = self.request();
+        self.line.clear();
+        match request {
+            Ok(Some(request)) => self.bench.obey(rt, request),
+            Ok(None) => Ok(()),
+            Err(error) => tell(rt, error, self.lines),
+        }
+    }
+
+    fn take_bytes(&mut self, rt: &impl Print, read: &[u8]) -> io::Result<()> {
+        for b in read {
+            if *b == b'\n' {
+                self.end_line(rt)?;
+            } else if !self.line.is_full() {
+                self.line.push(*b);
+            }
+        }
+        Ok(())
+    }
+
+    // A proved loop has to end, and nothing says that the input does: the turns are more than any run uses up.
+    fn take_all(&mut self, rt: &impl Print, input: &mut impl Read) -> io::Result<()> {
+        for _ in 0..u64::MAX {
+            let mut buf = [0u8; 4096];
+            let n = input.read(&mut buf)?;
+            if n == 0 {
+                break;
+            }
+            self.take_bytes(rt, &buf[..n])?;
+        }
+        Ok(())
+    }
 }
 
 fn serve(rt: &(impl Print + AllocGlobal), input: &mut impl Read) -> io::Result<()> {
-    let mut memory = vec![in rt.alloc(); 0u8; MEMORY]?;
-    let mut io = vec![in rt.alloc(); 0u8; IO]?;
-    let mut line = [0u8; 255];
-    let start = Session {
-        bench: bench::new_bench(),
-        lines: 0,
-        length: 0,
-    };
-    let s = take_all(rt, input, &mut line, start, &mut memory, &mut io)?;
+    let mut session = Session::new(rt)?;
+    session.take_all(rt, input)?;
     // The last line may lack its end.
-    if 0 < s.length {
-        end_line(rt, &line, s, &mut memory, &mut io)?;
+    if !session.line.is_empty() {
+        session.end_line(rt)?;
     }
     Ok(())
 }
 
 // A name that is no text cannot be opened.
 fn open<R: Files>(rt: &R, name: &[u8]) -> Option<R::File> {
-    let Ok(path) = str::from_utf8(name) else {
-        return None;
-    };
+    let path = str::from_utf8(name).ok()?;
     File::open(rt, path).ok()
 }
 

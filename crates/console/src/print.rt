@@ -4,18 +4,9 @@ use std::io;
 use step::Controller;
 use text_print::Text;
 
-fn write_first(rt: &impl Print, n: usize, s: &[u8]) -> io::Result<()> {
-    if n <= s.len() {
-        rt.write_all(&s[0..n])?;
-    }
-    Ok(())
-}
-
 // The line is written whole.
 pub fn line(rt: &impl Print, t: Text) -> io::Result<()> {
-    let t = t.with(b"\n");
-    let bytes = t.bytes;
-    write_first(rt, t.length, &bytes)
+    rt.write_all(t.with(b"\n").as_bytes())
 }
 
 fn channel_state(rt: &impl Print, w: Which, u: Controller) -> io::Result<()> {
@@ -33,10 +24,8 @@ pub fn state(rt: &impl Print, u: Controller) -> io::Result<()> {
 }
 
 pub fn help(rt: &impl Print) -> io::Result<()> {
-    let mut n: u8 = 0;
-    while n < 17 {
+    for n in 0..17 {
         line(rt, console_message::help(n))?;
-        n += 1;
     }
     Ok(())
 }

@@ -1,20 +1,13 @@
 -- The console's language: what each answer prints. Assumes nothing.
-use Rattle.std.specs.Prelude.{ℕ, Bool, true, false, not, List, [], eqb}
+use Rattle.std.specs.Prelude.{ℕ, Bool, true, false, not, List, [], eqb, Result, Ok, Err, ⊤}
 use Rattle.word_mode.specs.declared.Reasons.{Reasons}
 use Rattle.step.specs.declared.Answer.{Answer}
 use Rattle.step.specs.declared.Answer.TheVariants as answer
-use Rattle.call_command.specs.declared.Writing.{Writing}
-use Rattle.call_command.specs.declared.Writing.TheVariants as writing
-use Rattle.call_read.specs.declared.Reading.{Reading}
-use Rattle.call_read.specs.declared.Reading.TheVariants as reading
-use Rattle.call_line.specs.declared.LineAnswer.{LineAnswer}
-use Rattle.call_line.specs.declared.LineAnswer.TheVariants as level
-use Rattle.call_acknowledge.specs.declared.AckAnswer.{AckAnswer}
-use Rattle.call_acknowledge.specs.declared.AckAnswer.TheVariants as ack
+use Rattle.call_acknowledge.specs.declared.Acknowledgement.{Acknowledgement}
+use Rattle.call_acknowledge.specs.declared.Acknowledgement.TheVariants as ack
 use Rattle.standstill.specs.declared.Cause.{Cause}
 use Rattle.standstill.specs.declared.Cause.TheVariants as cause
-use Rattle.standstill.specs.declared.WhyAnswer.{WhyAnswer}
-use Rattle.standstill.specs.declared.WhyAnswer.TheVariants as standstill
+use Rattle.refusal.specs.declared.Refusal.{Refusal}
 use Rattle.text_scan.specs.Words.{bytes}
 use Rattle.text_print.specs.Text.{◌⧺◌, hex4_of, decimal_of, channel_of}
 use Rattle.console_refusal.specs.Refusals.{refusal_of}
@@ -33,7 +26,7 @@ upper_of changes = if_so (not (eqb changes 0)) (bytes " upper " ⧺ decimal_of c
 
 -- an answer of a step: its channel, its name, its end reasons and its changes of the upper address byte
 unfoldable pub answer_of : Answer → List ℕ
-answer_of (answer.Refused n) = refusal_of n
+answer_of (answer.Refused r) = refusal_of r
 answer_of answer.Disabled = bytes "0 disabled"
 answer_of answer.Idle = bytes "0 idle"
 answer_of (answer.GivenBack b) = bytes "0 given back"
@@ -43,26 +36,26 @@ answer_of (answer.Dropped w) = channel_of w ⧺ bytes " dropped"
 answer_of (answer.Unit w d) = channel_of w ⧺ bytes " unit" ⧺ reasons_of d.why ⧺ upper_of d.upper
 answer_of (answer.Ended w) = channel_of w ⧺ bytes " ended"
 
-unfoldable pub write_of : Writing → List ℕ
-write_of (writing.Refused n) = refusal_of n
-write_of writing.Taken = bytes "written"
+unfoldable pub write_of : Result ⊤ Refusal → List ℕ
+write_of (Err r) = refusal_of r
+write_of (Ok taken) = bytes "written"
 
-unfoldable pub read_of : Reading → List ℕ
-read_of (reading.Refused n) = refusal_of n
-read_of (reading.Value w) = bytes "read " ⧺ hex4_of w
+unfoldable pub read_of : Result ℕ Refusal → List ℕ
+read_of (Err r) = refusal_of r
+read_of (Ok w) = bytes "read " ⧺ hex4_of w
 
 unfoldable pub level_of : ℕ → Bool → List ℕ
 level_of c true = bytes "line " ⧺ decimal_of c ⧺ bytes " active"
 level_of c false = bytes "line " ⧺ decimal_of c ⧺ bytes " inactive"
 
-unfoldable pub line_of : ℕ → Bool → LineAnswer → List ℕ
-line_of c active (level.Refused n) = refusal_of n
-line_of c active level.Taken = level_of c active
+unfoldable pub line_of : ℕ → Bool → Result ⊤ Refusal → List ℕ
+line_of c active (Err r) = refusal_of r
+line_of c active (Ok taken) = level_of c active
 
-unfoldable pub acknowledge_of : AckAnswer → List ℕ
-acknowledge_of (ack.Refused n) = refusal_of n
-acknowledge_of (ack.Word w word) = bytes "acknowledged " ⧺ channel_of w ⧺ bytes " " ⧺ hex4_of word
-acknowledge_of (ack.NoWord w) = bytes "acknowledged " ⧺ channel_of w
+unfoldable pub acknowledge_of : Result Acknowledgement Refusal → List ℕ
+acknowledge_of (Err r) = refusal_of r
+acknowledge_of (Ok (ack.Word w word)) = bytes "acknowledged " ⧺ channel_of w ⧺ bytes " " ⧺ hex4_of word
+acknowledge_of (Ok (ack.NoWord w)) = bytes "acknowledged " ⧺ channel_of w
 
 unfoldable pub run_of : ℕ → Answer → List ℕ
 run_of steps a = bytes "ran " ⧺ decimal_of steps ⧺ bytes " " ⧺ answer_of a
@@ -84,6 +77,6 @@ cause_of cause.NotCarried = bytes "operation not carried"
 cause_of cause.OddWord = bytes "odd word address"
 cause_of cause.TurnOfTheOther = bytes "other channel's turn"
 
-unfoldable pub why_of : ℕ → WhyAnswer → List ℕ
-why_of c (standstill.Refused n) = refusal_of n
-why_of c (standstill.Because r) = decimal_of c ⧺ bytes " " ⧺ cause_of r
+unfoldable pub why_of : ℕ → Result Cause Refusal → List ℕ
+why_of c (Err r) = refusal_of r
+why_of c (Ok why) = decimal_of c ⧺ bytes " " ⧺ cause_of why

@@ -6,12 +6,10 @@ ghost use Rattle.text_scan.specs.Words.{bytes};
 ghost use Rattle.text_print.specs.Text.{written, appended, line, channel_of};
 ghost use Rattle.console_answer.specs.Wording.{if_so, reasons_of, upper_of, answer_of, write_of, read_of, level_of, line_of, acknowledge_of, run_of, cause_of, why_of};
 
-use call_acknowledge::AckAnswer;
-use call_command::Writing;
-use call_line::LineAnswer;
-use call_read::Reading;
+use call_acknowledge::Acknowledgement;
 use port::Which;
-use standstill::{Cause, WhyAnswer};
+use refusal::Refusal;
+use standstill::Cause;
 use step::Answer;
 use text_print::Text;
 use word_mode::Reasons;
@@ -54,7 +52,7 @@ fn answer(t: Text, a: Answer) -> Text
     ensures { written result ≡ appended (written t) (answer_of a) }
 {
     match a {
-        Answer::Refused(n) => console_refusal::refusal(t, n),
+        Answer::Refused(r) => console_refusal::refusal(t, r),
         Answer::Disabled => t.with(b"0 disabled"),
         Answer::Idle => t.with(b"0 idle"),
         Answer::GivenBack(_) => t.with(b"0 given back"),
@@ -67,22 +65,22 @@ fn answer(t: Text, a: Answer) -> Text
 }
 
 #[tactic(auto, unfolding(crate::specs::Wording::write_of))]
-pub fn write(a: Writing) -> Text
+pub fn write(a: Result<(), Refusal>) -> Text
     ensures { written result ≡ line (write_of a) }
 {
     match a {
-        Writing::Refused(n) => console_refusal::refusal(text_print::empty(), n),
-        Writing::Taken => text_print::of(b"written"),
+        Err(r) => console_refusal::refusal(text_print::empty(), r),
+        Ok(()) => text_print::of(b"written"),
     }
 }
 
 #[tactic(auto, using(text_print::proofs::Laws::twice), unfolding(crate::specs::Wording::read_of))]
-pub fn read(a: Reading) -> Text
+pub fn read(a: Result<u16, Refusal>) -> Text
     ensures { written result ≡ line (read_of a) }
 {
     match a {
-        Reading::Refused(n) => console_refusal::refusal(text_print::empty(), n),
-        Reading::Value(w) => text_print::of(b"read ").hex4(w),
+        Err(r) => console_refusal::refusal(text_print::empty(), r),
+        Ok(w) => text_print::of(b"read ").hex4(w),
     }
 }
 
@@ -98,12 +96,12 @@ fn level(c: u8, active: bool) -> Text
 }
 
 #[tactic(auto, unfolding(crate::specs::Wording::line_of))]
-pub fn line(c: u8, active: bool, a: LineAnswer) -> Text
+pub fn line(c: u8, active: bool, a: Result<(), Refusal>) -> Text
     ensures { written result ≡ line (line_of c active a) }
 {
     match a {
-        LineAnswer::Refused(n) => console_refusal::refusal(text_print::empty(), n),
-        LineAnswer::Taken => level(c, active),
+        Err(r) => console_refusal::refusal(text_print::empty(), r),
+        Ok(()) => level(c, active),
     }
 }
 
@@ -115,13 +113,13 @@ fn acknowledged(w: Which) -> Text
 }
 
 #[tactic(auto, using(text_print::proofs::Laws::twice), unfolding(crate::specs::Wording::acknowledge_of))]
-pub fn acknowledge(a: AckAnswer) -> Text
+pub fn acknowledge(a: Result<Acknowledgement, Refusal>) -> Text
     ensures { written result ≡ line (acknowledge_of a) }
 {
     match a {
-        AckAnswer::Refused(n) => console_refusal::refusal(text_print::empty(), n),
-        AckAnswer::Word(w, word) => acknowledged(w).with(b" ").hex4(word),
-        AckAnswer::NoWord(w) => acknowledged(w),
+        Err(r) => console_refusal::refusal(text_print::empty(), r),
+        Ok(Acknowledgement::Word(w, word)) => acknowledged(w).with(b" ").hex4(word),
+        Ok(Acknowledgement::NoWord(w)) => acknowledged(w),
     }
 }
 
@@ -139,37 +137,38 @@ pub fn run(steps: u32, a: Answer) -> Text
     answer(t.with(b" "), a)
 }
 
+// Bytes and no Display, as a refusal's.
 #[tactic(auto, unfolding(crate::specs::Wording::cause_of))]
-fn cause(t: Text, why: Cause) -> Text
-    ensures { written result ≡ appended (written t) (cause_of why) }
+fn cause(why: Cause) -> &'static [u8]
+    ensures { result.now ≡ cause_of why }
 {
     match why {
-        Cause::NothingWrong => t.with(b"nothing wrong"),
-        Cause::Disabled => t.with(b"disabled"),
-        Cause::ChainOnTheOther => t.with(b"chain under way on the other channel"),
-        Cause::GiveBackNote => t.with(b"give-back note"),
-        Cause::BusKeptByTheOther => t.with(b"bus kept by the other channel"),
-        Cause::Ca => t.with(b"CA"),
-        Cause::Sip => t.with(b"SIP"),
-        Cause::Nac => t.with(b"NAC"),
-        Cause::Masked => t.with(b"masked with the line active"),
-        Cause::NoRequest => t.with(b"no request"),
-        Cause::OddChain => t.with(b"odd chain address"),
-        Cause::NotCarried => t.with(b"operation not carried"),
-        Cause::OddWord => t.with(b"odd word address"),
-        Cause::TurnOfTheOther => t.with(b"other channel's turn"),
+        Cause::NothingWrong => b"nothing wrong",
+        Cause::Disabled => b"disabled",
+        Cause::ChainOnTheOther => b"chain under way on the other channel",
+        Cause::GiveBackNote => b"give-back note",
+        Cause::BusKeptByTheOther => b"bus kept by the other channel",
+        Cause::Ca => b"CA",
+        Cause::Sip => b"SIP",
+        Cause::Nac => b"NAC",
+        Cause::Masked => b"masked with the line active",
+        Cause::NoRequest => b"no request",
+        Cause::OddChain => b"odd chain address",
+        Cause::NotCarried => b"operation not carried",
+        Cause::OddWord => b"odd word address",
+        Cause::TurnOfTheOther => b"other channel's turn",
     }
 }
 
 #[tactic(auto, using(text_print::proofs::Laws::twice), unfolding(crate::specs::Wording::why_of))]
-pub fn why(c: u8, a: WhyAnswer) -> Text
+pub fn why(c: u8, a: Result<Cause, Refusal>) -> Text
     ensures { written result ≡ line (why_of c a) }
 {
     match a {
-        WhyAnswer::Refused(n) => console_refusal::refusal(text_print::empty(), n),
-        WhyAnswer::Because(why) => {
+        Err(r) => console_refusal::refusal(text_print::empty(), r),
+        Ok(why) => {
             let t = text_print::empty().decimal(c as u64);
-            cause(t.with(b" "), why)
+            t.with(b" ").with(cause(why))
         }
     }
 }

@@ -1,16 +1,16 @@
 // What a line of the console asks for.
 #![tactic(auto)]
 
-ghost use Rattle.std.specs.Prelude.{◌≡◌, ◌%◌};
-ghost use Rattle.console_line.specs.Names.{named, names, other_names, bench_names};
-ghost use Rattle.console_line.specs.Reading.{last_of, pointer_of, write_of, set_of, get_of, level_of, line_of, step_of, run_of, why_of, limit_of, lend_of, space_of, peek_of, filled, bytes_from, asked, poke_of, ask_of, taken, read_of};
+ghost use Rattle.std.specs.Prelude.{◌≡◌, []};
+ghost use Rattle.console_line.specs.Names.{named, names};
+ghost use Rattle.console_line.specs.Reading.{last_of, word_at, byte_at, address_at, decimal_at, channel_at, pointer_of, set_of, level_at, line_of, step_of, limit_of, within_of, lend_of, space_of, space_at, peek_of, bytes_from, poke_of, ask_of, word_of, read_of};
 
-use text_scan::Number;
+use arrayvec::ArrayVec;
 
 // ---- what the first word of a line names
 
 // The first word of a line.
-#[derive(Clone, Copy)]
+#[derive(Clone, Copy, Debug, PartialEq, Eq)]
 pub enum Name {
     Reset,
     Pointer,
@@ -23,73 +23,34 @@ pub enum Name {
     Step,
     Run,
     Why,
+    Poke,
     Peek,
     State,
     Help,
-    Unknown,
 }
 
 #[tactic(auto, unfolding(crate::specs::Names::named))]
-pub fn name_of(s: &[u8]) -> Name
+pub fn name_of(s: &[u8]) -> Option<Name>
     ensures { result ≡ named s.now names }
 {
-    if text_scan::same(s, b"reset") {
-        return Name::Reset;
+    match s {
+        b"reset" => Some(Name::Reset),
+        b"pointer" => Some(Name::Pointer),
+        b"write" => Some(Name::Write),
+        b"read" => Some(Name::Read),
+        b"set" => Some(Name::Set),
+        b"get" => Some(Name::Get),
+        b"line" => Some(Name::Line),
+        b"acknowledge" => Some(Name::Acknowledge),
+        b"step" => Some(Name::Step),
+        b"run" => Some(Name::Run),
+        b"why" => Some(Name::Why),
+        b"poke" => Some(Name::Poke),
+        b"peek" => Some(Name::Peek),
+        b"state" => Some(Name::State),
+        b"help" => Some(Name::Help),
+        _ => None,
     }
-    if text_scan::same(s, b"pointer") {
-        return Name::Pointer;
-    }
-    if text_scan::same(s, b"write") {
-        return Name::Write;
-    }
-    if text_scan::same(s, b"read") {
-        return Name::Read;
-    }
-    if text_scan::same(s, b"set") {
-        return Name::Set;
-    }
-    if text_scan::same(s, b"get") {
-        return Name::Get;
-    }
-    name_of_other_call(s)
-}
-
-#[tactic(auto, unfolding(crate::specs::Names::named))]
-fn name_of_other_call(s: &[u8]) -> Name
-    ensures { result ≡ named s.now other_names }
-{
-    if text_scan::same(s, b"line") {
-        return Name::Line;
-    }
-    if text_scan::same(s, b"acknowledge") {
-        return Name::Acknowledge;
-    }
-    if text_scan::same(s, b"step") {
-        return Name::Step;
-    }
-    if text_scan::same(s, b"run") {
-        return Name::Run;
-    }
-    name_at_the_bench(s)
-}
-
-#[tactic(auto, unfolding(crate::specs::Names::named))]
-fn name_at_the_bench(s: &[u8]) -> Name
-    ensures { result ≡ named s.now bench_names }
-{
-    if text_scan::same(s, b"why") {
-        return Name::Why;
-    }
-    if text_scan::same(s, b"peek") {
-        return Name::Peek;
-    }
-    if text_scan::same(s, b"state") {
-        return Name::State;
-    }
-    if text_scan::same(s, b"help") {
-        return Name::Help;
-    }
-    Name::Unknown
 }
 
 // ---- what the line asks for
@@ -101,14 +62,14 @@ const IO: u32 = 65536;
 
 const PEEK: u32 = 65536;
 
-#[derive(Clone, Copy)]
+#[derive(Clone, Copy, Debug, PartialEq, Eq)]
 pub enum LentSpace {
     Memory,
     Io,
 }
 
 // The host's calls that reach the controller alone, with what they are given.
-#[derive(Clone, Copy)]
+#[derive(Clone, Copy, Debug, PartialEq, Eq)]
 pub enum RegisterCall {
     Reset,
     WritePointer(u16),
@@ -122,176 +83,160 @@ pub enum RegisterCall {
 }
 
 // The host's calls that reach both spaces.
-#[derive(Clone, Copy)]
+#[derive(Clone, Copy, Debug, PartialEq, Eq)]
 pub enum Advance {
     Step(bool),
     Run(u32),
 }
 
-// What is asked over the bytes that are lent. The bytes of a poke stand beside it.
-#[derive(Clone, Copy)]
+// What is asked, with the bytes of a poke.
+#[derive(Debug, Drop)]
 pub enum Request {
-    Nothing,
-    Unreadable,
-    TooLarge,
+    Lend(LentSpace, u32),
     Make(RegisterCall),
     Advance(Advance),
     Why(u8),
-    Poke(LentSpace, u32, usize),
+    Poke(LentSpace, u32, ArrayVec<u8, 64>),
     Peek(LentSpace, u32, u32),
     State,
     Help,
 }
 
-#[derive(Clone, Copy)]
-pub enum Input {
-    Lend(LentSpace, u32),
-    Ask(Request),
+// Why a line asks for nothing.
+#[derive(Clone, Copy, Debug, PartialEq, Eq)]
+pub enum LineError {
+    NotUnderstood,
+    TooLarge,
 }
 
-fn low_word(n: u32) -> u16
-    ensures { result ≡ n % 65536 }
-{
-    (n % 65536) as u16
-}
-
-fn low_byte(n: u32) -> u8
-    ensures { result ≡ n % 256 }
-{
-    (n % 256) as u8
-}
+// ---- the words that follow
 
 // What a line asks whose last word was read, if nothing follows it.
 #[tactic(auto, unfolding(crate::specs::Reading::last_of))]
-fn last(more: &[u8], asked: Request) -> Request
+fn last(more: &[u8], asked: Request) -> Result<Request, LineError>
     ensures { result ≡ last_of more.now asked }
 {
-    if more.len() == 0 {
-        return asked;
+    if more.is_empty() {
+        Ok(asked)
+    } else {
+        Err(LineError::NotUnderstood)
     }
-    Request::Unreadable
 }
 
-#[tactic(auto, unfolding(crate::specs::Reading::pointer_of, crate::specs::Reading::with_number))]
-fn pointer(s: &[u8]) -> Request
+#[tactic(auto, unfolding(crate::specs::Reading::word_at))]
+fn word(s: &[u8]) -> Result<u16, LineError>
+    ensures { result ≡ word_at s.now }
+{
+    let w = text_scan::hexadecimal::<4>(text_scan::first(s)).ok_or(LineError::NotUnderstood)?;
+    Ok((w % 65536) as u16)
+}
+
+#[tactic(auto, unfolding(crate::specs::Reading::byte_at))]
+fn byte(s: &[u8]) -> Result<u8, LineError>
+    ensures { result ≡ byte_at s.now }
+{
+    let b = text_scan::hexadecimal::<2>(text_scan::first(s)).ok_or(LineError::NotUnderstood)?;
+    Ok((b % 256) as u8)
+}
+
+#[tactic(auto, unfolding(crate::specs::Reading::address_at))]
+fn address(s: &[u8]) -> Result<u32, LineError>
+    ensures { result ≡ address_at s.now }
+{
+    text_scan::hexadecimal::<6>(text_scan::first(s)).ok_or(LineError::NotUnderstood)
+}
+
+#[tactic(auto, unfolding(crate::specs::Reading::decimal_at))]
+fn decimal(s: &[u8]) -> Result<u32, LineError>
+    ensures { result ≡ decimal_at s.now }
+{
+    text_scan::decimal(text_scan::first(s)).ok_or(LineError::NotUnderstood)
+}
+
+#[tactic(auto, unfolding(crate::specs::Reading::channel_at))]
+fn channel(s: &[u8]) -> Result<u8, LineError>
+    ensures { result ≡ channel_at s.now }
+{
+    text_scan::channel(text_scan::first(s)).ok_or(LineError::NotUnderstood)
+}
+
+#[tactic(auto, unfolding(crate::specs::Reading::space_of))]
+fn space_named(s: &[u8]) -> Option<LentSpace>
+    ensures { result ≡ space_of s.now }
+{
+    match s {
+        b"memory" => Some(LentSpace::Memory),
+        b"io" => Some(LentSpace::Io),
+        _ => None,
+    }
+}
+
+#[tactic(auto, unfolding(crate::specs::Reading::space_at))]
+fn space(s: &[u8]) -> Result<LentSpace, LineError>
+    ensures { result ≡ space_at s.now }
+{
+    space_named(text_scan::first(s)).ok_or(LineError::NotUnderstood)
+}
+
+#[tactic(auto, unfolding(crate::specs::Reading::pointer_of))]
+fn pointer(s: &[u8]) -> Result<Request, LineError>
     ensures { result ≡ pointer_of s.now }
 {
-    if s.len() == 0 {
-        return Request::Make(RegisterCall::ReadPointer);
+    if s.is_empty() {
+        return Ok(Request::Make(RegisterCall::ReadPointer));
     }
-    let Number::Of(w) = text_scan::word(text_scan::first(s)) else {
-        return Request::Unreadable;
-    };
+    let w = word(s)?;
     last(
         text_scan::rest(s),
-        Request::Make(RegisterCall::WritePointer(low_word(w))),
+        Request::Make(RegisterCall::WritePointer(w)),
     )
 }
 
-#[tactic(auto, unfolding(crate::specs::Reading::with_number, crate::specs::Reading::write_of))]
-fn write(s: &[u8]) -> Request
-    ensures { result ≡ write_of s.now }
-{
-    let Number::Of(w) = text_scan::word(text_scan::first(s)) else {
-        return Request::Unreadable;
-    };
-    last(
-        text_scan::rest(s),
-        Request::Make(RegisterCall::Write(low_word(w))),
-    )
-}
-
-#[tactic(auto, unfolding(crate::specs::Reading::set_of, crate::specs::Reading::with_number))]
-fn set(s: &[u8]) -> Request
+#[tactic(auto, unfolding(crate::specs::Reading::set_of))]
+fn set(s: &[u8]) -> Result<Request, LineError>
     ensures { result ≡ set_of s.now }
 {
-    let Number::Of(p) = text_scan::word(text_scan::first(s)) else {
-        return Request::Unreadable;
-    };
+    let p = word(s)?;
     let s = text_scan::rest(s);
-    let Number::Of(w) = text_scan::word(text_scan::first(s)) else {
-        return Request::Unreadable;
-    };
-    last(
-        text_scan::rest(s),
-        Request::Make(RegisterCall::Set(low_word(p), low_word(w))),
-    )
+    let w = word(s)?;
+    last(text_scan::rest(s), Request::Make(RegisterCall::Set(p, w)))
 }
 
-#[tactic(auto, unfolding(crate::specs::Reading::get_of, crate::specs::Reading::with_number))]
-fn get(s: &[u8]) -> Request
-    ensures { result ≡ get_of s.now }
+#[tactic(auto, unfolding(crate::specs::Reading::level_at))]
+fn level(s: &[u8]) -> Result<bool, LineError>
+    ensures { result ≡ level_at s.now }
 {
-    let Number::Of(p) = text_scan::word(text_scan::first(s)) else {
-        return Request::Unreadable;
-    };
-    last(
-        text_scan::rest(s),
-        Request::Make(RegisterCall::Get(low_word(p))),
-    )
+    match text_scan::first(s) {
+        b"active" => Ok(true),
+        b"inactive" => Ok(false),
+        _ => Err(LineError::NotUnderstood),
+    }
 }
 
-#[tactic(auto, unfolding(crate::specs::Reading::level_of))]
-fn line_level(c: u8, s: &[u8]) -> Request
-    ensures { result ≡ level_of c s.now }
-{
-    let level = text_scan::first(s);
-    if text_scan::same(level, b"active") {
-        return last(
-            text_scan::rest(s),
-            Request::Make(RegisterCall::Line(c, true)),
-        );
-    }
-    if text_scan::same(level, b"inactive") {
-        return last(
-            text_scan::rest(s),
-            Request::Make(RegisterCall::Line(c, false)),
-        );
-    }
-    Request::Unreadable
-}
-
-#[tactic(auto, unfolding(crate::specs::Reading::line_of, crate::specs::Reading::with_number))]
-fn line(s: &[u8]) -> Request
+#[tactic(auto, unfolding(crate::specs::Reading::level_of, crate::specs::Reading::line_of))]
+fn line(s: &[u8]) -> Result<Request, LineError>
     ensures { result ≡ line_of s.now }
 {
-    let Number::Of(c) = text_scan::channel(text_scan::first(s)) else {
-        return Request::Unreadable;
-    };
-    line_level(low_byte(c), text_scan::rest(s))
+    let c = channel(s)?;
+    let s = text_scan::rest(s);
+    let active = level(s)?;
+    last(
+        text_scan::rest(s),
+        Request::Make(RegisterCall::Line(c, active)),
+    )
 }
 
 #[tactic(auto, unfolding(crate::specs::Reading::step_of))]
-fn step(s: &[u8]) -> Request
+fn step(s: &[u8]) -> Result<Request, LineError>
     ensures { result ≡ step_of s.now }
 {
-    if s.len() == 0 {
-        return Request::Advance(Advance::Step(false));
+    if s.is_empty() {
+        return Ok(Request::Advance(Advance::Step(false)));
     }
-    if text_scan::same(text_scan::first(s), b"eop") {
-        return last(text_scan::rest(s), Request::Advance(Advance::Step(true)));
+    match text_scan::first(s) {
+        b"eop" => last(text_scan::rest(s), Request::Advance(Advance::Step(true))),
+        _ => Err(LineError::NotUnderstood),
     }
-    Request::Unreadable
-}
-
-#[tactic(auto, unfolding(crate::specs::Reading::run_of, crate::specs::Reading::with_number))]
-fn run(s: &[u8]) -> Request
-    ensures { result ≡ run_of s.now }
-{
-    let Number::Of(n) = text_scan::decimal(text_scan::first(s)) else {
-        return Request::Unreadable;
-    };
-    last(text_scan::rest(s), Request::Advance(Advance::Run(n)))
-}
-
-#[tactic(auto, unfolding(crate::specs::Reading::why_of, crate::specs::Reading::with_number))]
-fn why(s: &[u8]) -> Request
-    ensures { result ≡ why_of s.now }
-{
-    let Number::Of(c) = text_scan::channel(text_scan::first(s)) else {
-        return Request::Unreadable;
-    };
-    last(text_scan::rest(s), Request::Why(low_byte(c)))
 }
 
 #[tactic(auto, unfolding(crate::specs::Reading::limit_of))]
@@ -304,144 +249,123 @@ fn limit(space: LentSpace) -> u32
     }
 }
 
-#[tactic(auto, unfolding(crate::specs::Reading::lend_by, crate::specs::Reading::lend_of))]
-fn lend(space: LentSpace, s: &[u8]) -> Input
+// A line is read whole before its count is compared.
+#[tactic(auto, unfolding(crate::specs::Reading::within_of))]
+fn within(limit: u32, n: u32, asked: Result<Request, LineError>) -> Result<Request, LineError>
+    ensures { result ≡ within_of limit n asked }
+{
+    let asked = asked?;
+    if limit < n {
+        return Err(LineError::TooLarge);
+    }
+    Ok(asked)
+}
+
+#[tactic(auto, unfolding(crate::specs::Reading::lend_of))]
+fn lend(space: LentSpace, s: &[u8]) -> Result<Request, LineError>
     ensures { result ≡ lend_of space s.now }
 {
-    let Number::Of(n) = text_scan::decimal(text_scan::first(s)) else {
-        return Input::Ask(Request::Unreadable);
-    };
-    if text_scan::rest(s).len() != 0 {
-        return Input::Ask(Request::Unreadable);
-    }
-    if limit(space) < n {
-        return Input::Ask(Request::TooLarge);
-    }
-    Input::Lend(space, n)
+    let n = decimal(s)?;
+    let asked = last(text_scan::rest(s), Request::Lend(space, n));
+    within(limit(space), n, asked)
 }
 
-#[derive(Clone, Copy)]
-enum Named {
-    In(LentSpace),
-    Nowhere,
-}
-
-#[tactic(auto, unfolding(crate::specs::Reading::space_of))]
-fn space_named(s: &[u8]) -> Named
-    ensures { result ≡ space_of s.now }
+// The words of a text, each a byte.
+#[tactic(auto, using(crate::proofs::Laws::bytes_none, crate::proofs::Laws::bytes_full, crate::proofs::Laws::bytes_bad, crate::proofs::Laws::bytes_on))]
+fn bytes_of(s: &[u8]) -> Result<ArrayVec<u8, 64>, LineError>
+    ensures { result ≡ bytes_from 64 s.now [] }
 {
-    if text_scan::same(s, b"memory") {
-        return Named::In(LentSpace::Memory);
-    }
-    if text_scan::same(s, b"io") {
-        return Named::In(LentSpace::Io);
-    }
-    Named::Nowhere
-}
-
-// How many bytes the words of a text are, each put in its place.
-#[tactic(auto, using(facts::proofs::Lists::all_left, facts::proofs::Lists::some_left, facts::proofs::Lists::none_left, crate::proofs::Laws::fill_none, crate::proofs::Laws::fill_full, crate::proofs::Laws::fill_bad, crate::proofs::Laws::fill_on))]
-fn bytes_of(s: &[u8], bytes: &mut [u8; 64]) -> Number
-    ensures { filled result bytes.new ≡ bytes_from 64 0 s.now bytes.old }
-{
-    let mut at = 0;
-    let mut n: usize = 0;
-    while at < s.len() {
-        if n == 64 {
-            return Number::Unreadable;
+    let mut bytes = ArrayVec::new();
+    let mut left = s;
+    while !left.is_empty() {
+        if bytes.is_full() {
+            return Err(LineError::NotUnderstood);
         }
-        let left = &s[at..];
-        let Number::Of(b) = text_scan::byte(text_scan::first(left)) else {
-            return Number::Unreadable;
-        };
-        bytes[n] = low_byte(b);
-        at += text_scan::past_first(left);
-        n += 1;
+        bytes.push(byte(left)?);
+        left = text_scan::rest(left);
     }
-    Number::Of(n as u32)
+    Ok(bytes)
 }
 
-#[tactic(auto, unfolding(crate::specs::Reading::at_number, crate::specs::Reading::in_space, crate::specs::Reading::poke_of, crate::specs::Reading::poked_of))]
-fn poke(s: &[u8], bytes: &mut [u8; 64]) -> Request
-    ensures { asked result bytes.new ≡ poke_of s.now bytes.old }
+#[tactic(auto, unfolding(crate::specs::Reading::poke_of))]
+fn poke(s: &[u8]) -> Result<Request, LineError>
+    ensures { result ≡ poke_of s.now }
 {
-    let Named::In(space) = space_named(text_scan::first(s)) else {
-        return Request::Unreadable;
-    };
+    let space = space(s)?;
     let s = text_scan::rest(s);
-    let Number::Of(at) = text_scan::address(text_scan::first(s)) else {
-        return Request::Unreadable;
-    };
-    let Number::Of(n) = bytes_of(text_scan::rest(s), bytes) else {
-        return Request::Unreadable;
-    };
-    if n == 0 {
-        return Request::Unreadable;
+    let at = address(s)?;
+    let bytes = bytes_of(text_scan::rest(s))?;
+    if bytes.is_empty() {
+        return Err(LineError::NotUnderstood);
     }
-    Request::Poke(space, at, n as usize)
+    Ok(Request::Poke(space, at, bytes))
 }
 
-#[tactic(auto, unfolding(crate::specs::Reading::peek_of, crate::specs::Reading::peeked_of, crate::specs::Reading::with_number, crate::specs::Reading::with_space))]
-fn peek(s: &[u8]) -> Request
+#[tactic(auto, unfolding(crate::specs::Reading::peek_of))]
+fn peek(s: &[u8]) -> Result<Request, LineError>
     ensures { result ≡ peek_of s.now }
 {
-    let Named::In(space) = space_named(text_scan::first(s)) else {
-        return Request::Unreadable;
-    };
+    let space = space(s)?;
     let s = text_scan::rest(s);
-    let Number::Of(at) = text_scan::address(text_scan::first(s)) else {
-        return Request::Unreadable;
-    };
+    let at = address(s)?;
     let s = text_scan::rest(s);
-    let Number::Of(n) = text_scan::decimal(text_scan::first(s)) else {
-        return Request::Unreadable;
-    };
-    if PEEK < n {
-        return last(text_scan::rest(s), Request::TooLarge);
-    }
-    last(text_scan::rest(s), Request::Peek(space, at, n))
+    let n = decimal(s)?;
+    let asked = last(text_scan::rest(s), Request::Peek(space, at, n));
+    within(PEEK, n, asked)
 }
 
 // What a line of a name asks, with the words that follow.
 #[tactic(auto, unfolding(crate::specs::Reading::ask_of))]
-fn ask(name: Name, s: &[u8]) -> Request
+fn ask(name: Name, s: &[u8]) -> Result<Request, LineError>
     ensures { result ≡ ask_of name s.now }
 {
     match name {
         Name::Reset => last(s, Request::Make(RegisterCall::Reset)),
         Name::Pointer => pointer(s),
-        Name::Write => write(s),
+        Name::Write => last(
+            text_scan::rest(s),
+            Request::Make(RegisterCall::Write(word(s)?)),
+        ),
         Name::Read => last(s, Request::Make(RegisterCall::Read)),
         Name::Set => set(s),
-        Name::Get => get(s),
+        Name::Get => last(
+            text_scan::rest(s),
+            Request::Make(RegisterCall::Get(word(s)?)),
+        ),
         Name::Line => line(s),
         Name::Acknowledge => last(s, Request::Make(RegisterCall::Acknowledge)),
         Name::Step => step(s),
-        Name::Run => run(s),
-        Name::Why => why(s),
+        Name::Run => last(
+            text_scan::rest(s),
+            Request::Advance(Advance::Run(decimal(s)?)),
+        ),
+        Name::Why => last(text_scan::rest(s), Request::Why(channel(s)?)),
+        Name::Poke => poke(s),
         Name::Peek => peek(s),
         Name::State => last(s, Request::State),
         Name::Help => last(s, Request::Help),
-        Name::Unknown => Request::Unreadable,
     }
 }
 
-// A line of words; a poke's bytes are put in theirs.
-#[tactic(auto, unfolding(crate::specs::Reading::read_of, crate::specs::Reading::word_of))]
-pub fn read_line(typed: &[u8], bytes: &mut [u8; 64]) -> Input
-    ensures { taken result bytes.new ≡ read_of typed.now bytes.old }
+#[tactic(auto, unfolding(crate::specs::Reading::word_of))]
+fn ask_by_word(word: &[u8], s: &[u8]) -> Result<Request, LineError>
+    ensures { result ≡ word_of word.now (space_of word.now) s.now }
+{
+    if let Some(space) = space_named(word) {
+        return lend(space, s);
+    }
+    ask(name_of(word).ok_or(LineError::NotUnderstood)?, s)
+}
+
+// A line of words; an empty one asks for nothing.
+#[tactic(auto, unfolding(crate::specs::Reading::read_of))]
+pub fn read_line(typed: &[u8]) -> Result<Option<Request>, LineError>
+    ensures { result ≡ read_of typed.now }
 {
     let s = text_scan::code(typed);
-    if s.len() == 0 {
-        return Input::Ask(Request::Nothing);
+    if s.is_empty() {
+        return Ok(None);
     }
-    let word = text_scan::first(s);
-    let args = text_scan::rest(s);
-    if let Named::In(space) = space_named(word) {
-        return lend(space, args);
-    }
-    if text_scan::same(word, b"poke") {
-        return Input::Ask(poke(args, bytes));
-    }
-    Input::Ask(ask(name_of(word), args))
+    let asked = ask_by_word(text_scan::first(s), text_scan::rest(s))?;
+    Ok(Some(asked))
 }

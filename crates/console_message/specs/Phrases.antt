@@ -1,6 +1,5 @@
 -- The console's language: what the lines print that hold no answer of the controller. Assumes nothing.
-use Rattle.std.specs.Prelude.{ℕ, cond, List, [], ◌∷◌, ltb}
-use Rattle.facts.specs.Look.{look}
+use Rattle.std.specs.Prelude.{ℕ, List, [], ◌∷◌, ◌++◌, min, get_or}
 use Rattle.console_line.specs.declared.LentSpace.{LentSpace}
 use Rattle.console_line.specs.declared.LentSpace.TheVariants.{Memory, Io}
 use Rattle.text_scan.specs.Words.{bytes}
@@ -31,35 +30,32 @@ not_understood_of n = bytes "error " ⧺ decimal_of n ⧺ bytes " not understood
 unfoldable pub too_large_of : ℕ → List ℕ
 too_large_of n = bytes "error " ⧺ decimal_of n ⧺ bytes " too large"
 
--- the help: the calls' lines, then the bench's
-abbrev pub calls : List (ℕ × List ℕ)
+-- the help: a line for each call, then for each word of the bench
+abbrev pub calls : List (List ℕ)
 calls =
-    (0, bytes "reset                        pull the reset line")
-    ∷ (1, bytes "pointer HHHH                 write the pointer, and show what it keeps")
-    ∷ (2, bytes "pointer                      read the pointer")
-    ∷ (3, bytes "write HHHH                   write the register at the pointer")
-    ∷ (4, bytes "read                         read the register at the pointer")
-    ∷ (5, bytes "set HHHH HHHH                write the pointer, then its register")
-    ∷ (6, bytes "get HHHH                     write the pointer, then read its register")
-    ∷ (7, bytes "line C active|inactive       set the level of channel C's request line")
-    ∷ (8, bytes "acknowledge                  acknowledge an interrupt")
-    ∷ (9, bytes "step [eop]                   make one step, with EOP given or not")
-    ∷ (10, bytes "run N                        make up to N steps, at most 65536")
+    bytes "reset                        pull the reset line"
+    ∷ bytes "pointer HHHH                 write the pointer, and show what it keeps"
+    ∷ bytes "pointer                      read the pointer"
+    ∷ bytes "write HHHH                   write the register at the pointer"
+    ∷ bytes "read                         read the register at the pointer"
+    ∷ bytes "set HHHH HHHH                write the pointer, then its register"
+    ∷ bytes "get HHHH                     write the pointer, then read its register"
+    ∷ bytes "line C active|inactive       set the level of channel C's request line"
+    ∷ bytes "acknowledge                  acknowledge an interrupt"
+    ∷ bytes "step [eop]                   make one step, with EOP given or not"
+    ∷ bytes "run N                        make up to N steps, at most 65536"
+    ∷ bytes "why C                        say why channel C stands still"
     ∷ []
 
-unfoldable pub help_on_calls : ℕ → List ℕ
-help_on_calls n = look (bytes "why C                        say why channel C stands still") n calls
-
-abbrev pub bench : List (ℕ × List ℕ)
+abbrev pub bench : List (List ℕ)
 bench =
-    (12, bytes "memory N, io N               lend N bytes of 00 anew")
-    ∷ (13, bytes "poke memory|io AAAAAA HH ..  store 1 to 64 bytes from an address on")
-    ∷ (14, bytes "peek memory|io AAAAAA N      show N bytes from an address on")
-    ∷ (15, bytes "state                        show all that the controller holds")
+    bytes "memory N, io N               lend N bytes of 00 anew"
+    ∷ bytes "poke memory|io AAAAAA HH ..  store 1 to 64 bytes from an address on"
+    ∷ bytes "peek memory|io AAAAAA N      show N bytes from an address on"
+    ∷ bytes "state                        show all that the controller holds"
+    ∷ bytes "help                         show this list"
     ∷ []
 
-unfoldable pub help_on_the_bench : ℕ → List ℕ
-help_on_the_bench n = look (bytes "help                         show this list") n bench
-
+-- past the end, the last line
 unfoldable pub help_of : ℕ → List ℕ
-help_of n = cond (ltb n 12) (help_on_calls n) (help_on_the_bench n)
+help_of n = get_or (calls ++ bench) (min n 16) []

@@ -4,7 +4,7 @@
 ghost use Rattle.std.specs.Prelude.{◌≡◌, ◌++◌};
 ghost use Rattle.text_scan.specs.Words.{bytes};
 ghost use Rattle.text_print.specs.Text.{written, appended, line, hex2_of};
-ghost use Rattle.console_message.specs.Phrases.{pointer_of, lent_of, poked_of, bytes_of, row_of, not_understood_of, too_large_of, help_on_calls, help_on_the_bench, help_of};
+ghost use Rattle.console_message.specs.Phrases.{pointer_of, lent_of, poked_of, bytes_of, row_of, not_understood_of, too_large_of, help_of};
 
 use console_line::LentSpace;
 use text_print::Text;
@@ -47,14 +47,11 @@ fn blank_and_byte(t: Text, b: u8) -> Text
 }
 
 #[tactic(auto, using(text_print::proofs::Laws::room, text_print::proofs::Laws::twice, crate::proofs::Laws::one_more), unfolding(crate::specs::Phrases::bytes_of))]
-fn row_bytes(t: Text, bytes: &[u8]) -> Text
+fn row_bytes(mut t: Text, bytes: &[u8]) -> Text
     ensures { written result ≡ appended (written t) (bytes_of bytes.now) }
 {
-    let mut t = t;
-    let mut i = 0;
-    while i < bytes.len() {
-        t = blank_and_byte(t, bytes[i]);
-        i += 1;
+    for &b in bytes {
+        t = blank_and_byte(t, b);
     }
     t
 }
@@ -81,47 +78,29 @@ pub fn too_large(number: u64) -> Text
     t.with(b" too large")
 }
 
-// ---- the help, in seventeen lines
+// The help: a line for each call, then for each word of the bench.
+const HELP: [&[u8]; 17] = [
+    b"reset                        pull the reset line",
+    b"pointer HHHH                 write the pointer, and show what it keeps",
+    b"pointer                      read the pointer",
+    b"write HHHH                   write the register at the pointer",
+    b"read                         read the register at the pointer",
+    b"set HHHH HHHH                write the pointer, then its register",
+    b"get HHHH                     write the pointer, then read its register",
+    b"line C active|inactive       set the level of channel C's request line",
+    b"acknowledge                  acknowledge an interrupt",
+    b"step [eop]                   make one step, with EOP given or not",
+    b"run N                        make up to N steps, at most 65536",
+    b"why C                        say why channel C stands still",
+    b"memory N, io N               lend N bytes of 00 anew",
+    b"poke memory|io AAAAAA HH ..  store 1 to 64 bytes from an address on",
+    b"peek memory|io AAAAAA N      show N bytes from an address on",
+    b"state                        show all that the controller holds",
+    b"help                         show this list",
+];
 
-#[tactic(auto, using(facts::proofs::Look::look_none), unfolding(crate::specs::Phrases::help_on_calls, facts::specs::Look::look))]
-fn help_on_calls(t: Text, n: u8) -> Text
-    ensures { written result ≡ appended (written t) (help_on_calls n) }
-{
-    match n {
-        0 => t.with(b"reset                        pull the reset line"),
-        1 => t.with(b"pointer HHHH                 write the pointer, and show what it keeps"),
-        2 => t.with(b"pointer                      read the pointer"),
-        3 => t.with(b"write HHHH                   write the register at the pointer"),
-        4 => t.with(b"read                         read the register at the pointer"),
-        5 => t.with(b"set HHHH HHHH                write the pointer, then its register"),
-        6 => t.with(b"get HHHH                     write the pointer, then read its register"),
-        7 => t.with(b"line C active|inactive       set the level of channel C's request line"),
-        8 => t.with(b"acknowledge                  acknowledge an interrupt"),
-        9 => t.with(b"step [eop]                   make one step, with EOP given or not"),
-        10 => t.with(b"run N                        make up to N steps, at most 65536"),
-        _ => t.with(b"why C                        say why channel C stands still"),
-    }
-}
-
-#[tactic(auto, using(facts::proofs::Look::look_none), unfolding(crate::specs::Phrases::help_on_the_bench, facts::specs::Look::look))]
-fn help_on_the_bench(t: Text, n: u8) -> Text
-    ensures { written result ≡ appended (written t) (help_on_the_bench n) }
-{
-    match n {
-        12 => t.with(b"memory N, io N               lend N bytes of 00 anew"),
-        13 => t.with(b"poke memory|io AAAAAA HH ..  store 1 to 64 bytes from an address on"),
-        14 => t.with(b"peek memory|io AAAAAA N      show N bytes from an address on"),
-        15 => t.with(b"state                        show all that the controller holds"),
-        _ => t.with(b"help                         show this list"),
-    }
-}
-
-#[tactic(auto, unfolding(crate::specs::Phrases::help_of))]
 pub fn help(n: u8) -> Text
     ensures { written result ≡ line (help_of n) }
 {
-    if n < 12 {
-        return help_on_calls(text_print::empty(), n);
-    }
-    help_on_the_bench(text_print::empty(), n)
+    text_print::of(HELP[(n as usize).min(HELP.len() - 1)])
 }

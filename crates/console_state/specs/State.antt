@@ -1,5 +1,5 @@
 -- The console's language: the lines of `state`. Assumes nothing.
-use Rattle.std.specs.Prelude.{ℕ, List}
+use Rattle.std.specs.Prelude.{ℕ, List, None, Option, Some}
 use Rattle.port.specs.declared.Which.{Which}
 use Rattle.word_address.specs.declared.Address.{Address}
 use Rattle.word_address.specs.declared.Set.{Set}
@@ -8,12 +8,6 @@ use Rattle.word_reload.specs.Length.{words_left}
 use Rattle.channel.specs.Ending.{flags_of}
 use Rattle.word_reload.specs.declared.Stage.{Stage}
 use Rattle.word_reload.specs.declared.Stage.TheVariants.{Reload, Entries}
-use Rattle.step_bus.specs.declared.Bus.{Bus}
-use Rattle.step_bus.specs.declared.Bus.TheVariants.{Free, Kept}
-use Rattle.step_bus.specs.declared.Chain.{Chain}
-use Rattle.step_bus.specs.declared.Chain.TheVariants.{NoChain, Of}
-use Rattle.step_bus.specs.declared.Served.{Served}
-use Rattle.step_bus.specs.declared.Served.TheVariants.{Nobody, Last}
 use Rattle.step.specs.declared.Controller.{Controller}
 use Rattle.step.specs.Controller.{at}
 use Rattle.call_read.specs.Reading.{waits_for_bus}
@@ -21,22 +15,18 @@ use Rattle.text_scan.specs.Words.{bytes}
 use Rattle.text_print.specs.Text.{◌⧺◌, hex2_of, hex4_of, decimal_of, bit_of, channel_of}
 
 -- `served` and `bus`: 0 or a channel
-unfoldable pub served_of : Served → List ℕ
-served_of Nobody = bytes "0"
-served_of (Last w) = channel_of w
-
-unfoldable pub bus_of : Bus → List ℕ
-bus_of Free = bytes "0"
-bus_of (Kept w) = channel_of w
+unfoldable pub which_of : Option Which → List ℕ
+which_of None = bytes "0"
+which_of (Some w) = channel_of w
 
 -- `chain`: 0 where none is under way, `start` where the reload word is fetched next, or the words still to fetch
 unfoldable pub stage_of : Stage → List ℕ
 stage_of Reload = bytes " start"
 stage_of (Entries p) = bytes " " ⧺ decimal_of (words_left p)
 
-unfoldable pub chain_of : Chain → List ℕ
-chain_of NoChain = bytes "0"
-chain_of (Of w s) = channel_of w ⧺ stage_of s
+unfoldable pub chain_of : Option (Which × Stage) → List ℕ
+chain_of None = bytes "0"
+chain_of (Some (w, s)) = channel_of w ⧺ stage_of s
 
 -- pointer HHHH master HHHH
 unfoldable pub words_text : Controller → List ℕ
@@ -46,9 +36,9 @@ words_text u = bytes "pointer " ⧺ hex4_of u.pointer ⧺ bytes " master " ⧺ h
 unfoldable pub controller_of : Controller → List ℕ
 controller_of u =
     words_text u
-    ⧺ bytes " served " ⧺ served_of u.control.served
+    ⧺ bytes " served " ⧺ which_of u.control.served
     ⧺ bytes " note " ⧺ bit_of u.control.note
-    ⧺ bytes " bus " ⧺ bus_of u.control.bus
+    ⧺ bytes " bus " ⧺ which_of u.control.bus
     ⧺ bytes " chain " ⧺ chain_of u.control.chain
 
 -- two words are the upper and the lower, or the high and the low

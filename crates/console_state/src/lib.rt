@@ -4,34 +4,24 @@
 ghost use Rattle.std.specs.Prelude.{◌≡◌, cond, ◌++◌};
 ghost use Rattle.word_reload.specs.Length.{words_left};
 ghost use Rattle.text_print.specs.Text.{written, appended, line, channel_of};
-ghost use Rattle.console_state.specs.State.{served_of, bus_of, stage_of, chain_of, words_text, controller_of, two_words, address_of, set_of, current_of, base_of, compared_of, modes_of, status_line};
+ghost use Rattle.console_state.specs.State.{which_of, stage_of, chain_of, words_text, controller_of, two_words, address_of, set_of, current_of, base_of, compared_of, modes_of, status_line};
 
 use port::Which;
 use step::Controller;
-use step_bus::{Bus, Chain, Served};
 use text_print::Text;
 use word_address::{Address, Set};
 use word_reload::{Progress, Stage};
 
 // ---- the controller's
 
-#[tactic(auto, unfolding(crate::specs::State::served_of))]
-fn served_last(t: Text, s: Served) -> Text
-    ensures { written result ≡ appended (written t) (served_of s) }
+// A channel, or 0 where there is none.
+#[tactic(auto, unfolding(crate::specs::State::which_of))]
+fn which(t: Text, w: Option<Which>) -> Text
+    ensures { written result ≡ appended (written t) (which_of w) }
 {
-    match s {
-        Served::Nobody => t.with(b"0"),
-        Served::Last(w) => t.channel(w),
-    }
-}
-
-#[tactic(auto, unfolding(crate::specs::State::bus_of))]
-fn keeper(t: Text, b: Bus) -> Text
-    ensures { written result ≡ appended (written t) (bus_of b) }
-{
-    match b {
-        Bus::Free => t.with(b"0"),
-        Bus::Kept(w) => t.channel(w),
+    match w {
+        None => t.with(b"0"),
+        Some(w) => t.channel(w),
     }
 }
 
@@ -48,12 +38,7 @@ fn fetched(second: bool) -> u32
 fn words_left(p: Progress) -> u32
     ensures { result ≡ words_left p }
 {
-    let all = word_reload::words(p.left);
-    let gone = fetched(p.second);
-    if all < gone {
-        return 0;
-    }
-    all - gone
+    word_reload::words(p.left).saturating_sub(fetched(p.second))
 }
 
 #[tactic(auto, using(text_print::proofs::Laws::twice), unfolding(crate::specs::State::stage_of))]
@@ -67,12 +52,12 @@ fn stage(t: Text, s: Stage) -> Text
 }
 
 #[tactic(auto, using(text_print::proofs::Laws::twice), unfolding(crate::specs::State::chain_of))]
-fn chain_under_way(t: Text, c: Chain) -> Text
+fn chain_under_way(t: Text, c: Option<(Which, Stage)>) -> Text
     ensures { written result ≡ appended (written t) (chain_of c) }
 {
     match c {
-        Chain::NoChain => t.with(b"0"),
-        Chain::Of(w, s) => stage(t.channel(w), s),
+        None => t.with(b"0"),
+        Some((w, s)) => stage(t.channel(w), s),
     }
 }
 
@@ -91,9 +76,9 @@ pub fn controller(u: Controller) -> Text
     let chain = k.chain;
     let bus = k.bus;
     let served = k.served;
-    let t = served_last(words(u).with(b" served "), served);
+    let t = which(words(u).with(b" served "), served);
     let t = t.with(b" note ").bit(k.note);
-    let t = keeper(t.with(b" bus "), bus);
+    let t = which(t.with(b" bus "), bus);
     chain_under_way(t.with(b" chain "), chain)
 }
 

@@ -5,5 +5,6 @@ pub mod Flags
 pub mod Lists
 pub mod Look
 pub mod Masks
+pub mod OneBit
 pub mod Rows
 pub mod Table

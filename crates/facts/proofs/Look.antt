@@ -3,7 +3,8 @@ use mathlib.Core.Path.{◌≡◌, refl}
 use mathlib.Core.List.{List, [], ◌∷◌}
 use Prim.Native.Nat.{ℕ}
 use borrow.Author.Tests.{ne_eqb}
-use Rattle.facts.specs.Look.{look}
+use Rattle.std.specs.Prelude.{None}
+use Rattle.facts.specs.Look.{look, find}
 
 module _ {A : Type 0} where
   -- p is at no entry, told after B: in this form, with the arms in the entries' order, it is what the arm `_` is told
@@ -20,3 +21,9 @@ module _ {A : Type 0} where
   look_none B d p [] h = refl
   look_none B d p (e ∷ es) h =
       rw (ne_eqb p e.0 (told (B × (p ≡ e.0 → ⊥)) p es h).1) (look_none (B × (p ≡ e.0 → ⊥)) d p es h)
+
+  pub find_none : (B : Type 0) (p : ℕ) (es : List (ℕ × A)) → Missing B p es → None ≡ find p es
+  unfolding find
+  find_none B p [] h = refl
+  find_none B p (e ∷ es) h =
+      rw (ne_eqb p e.0 (told (B × (p ≡ e.0 → ⊥)) p es h).1) (find_none (B × (p ≡ e.0 → ⊥)) p es h)

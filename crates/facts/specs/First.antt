@@ -1,11 +1,16 @@
 -- A table of conditions and what each gives, such as refusals with their numbers: the first that holds gives the answer. Assumes nothing.
-use Rattle.std.specs.Prelude.{◌≡◌, Bool, true, false, cond, ◌⊎◌, ◌≢◌, ◌↔◌, List, [], ◌∷◌, ℕ}
+use Rattle.std.specs.Prelude.{◌≡◌, Bool, true, false, cond, ◌⊎◌, ◌≢◌, ◌↔◌, List, [], ◌∷◌, ℕ, Option, None, Some}
 
 module _ {A : Type 0} where
   -- What the first condition that holds gives, or d.
   abbrev pub first_or : A → List (Bool × A) → A
   first_or d [] = d
   first_or d (e ∷ es) = cond e.0 e.1 (first_or d es)
+
+  -- What the first condition that holds gives, where one does.
+  abbrev pub first_some : List (Bool × A) → Option A
+  first_some [] = None
+  first_some (e ∷ es) = cond e.0 (Some e.1) (first_some es)
 
   -- n is given: its condition holds, and no earlier one does.
   abbrev pub Given : List (Bool × A) → A → Type 0

@@ -4,20 +4,17 @@ use Prim.Native.Nat.{ℕ, ◌%◌}
 use mathlib.Core.Path.{◌≡◌, refl, sym, ap, ◌∙◌}
 use mathlib.Core.Bool.{Bool, true, false}
 use mathlib.Core.List.{List, [], ◌∷◌}
-use Rattle.facts.specs.Look.{look}
+use Rattle.std.specs.Prelude.{None, Option, Some}
+use Rattle.facts.specs.Look.{look, find}
 use Rattle.port.specs.declared.Which.TheVariants.{One, Two}
 use Rattle.word_reload.specs.declared.Progress.{Progress}
 use Rattle.word_reload.specs.declared.Stage.TheVariants.{Reload, Entries}
 use Rattle.channel.specs.declared.Channel.{Channel}
-use Rattle.step_bus.specs.declared.Chain.{Chain}
-use Rattle.step_bus.specs.declared.Chain.TheVariants.{NoChain, Of}
-use Rattle.step_bus.specs.declared.Bus.{Bus}
-use Rattle.step_bus.specs.declared.Bus.TheVariants.{Free, Kept}
-use Rattle.step_bus.specs.declared.Served.{Served}
-use Rattle.step_bus.specs.declared.Served.TheVariants.{Nobody, Last}
 use Rattle.step.specs.declared.Controller.{Controller}
-use Rattle.host_state.specs.Store.{bit, chain_word, stage_word, progress_of, bus_word, served_word, channel_words, words_of}
-use Rattle.host_state.specs.Load.{flag, stage_of, chain_of, bus_of, served_of, channel_at, progress_at, state_of}
+use Rattle.host_state.specs.Store.{bit, chain_word, stage_word, progress_of, channel_word, channel_words, words_of}
+use Rattle.host_state.specs.Load.{flag, stage_of, chain_of, channel_of, channel_at, progress_at, state_of}
+use Rattle.port.specs.declared.Which.{Which}
+use Rattle.word_reload.specs.declared.Stage.{Stage}
 
 flag_back : (b : Bool) → flag (bit b) ≡ b
 flag_back true = refl
@@ -30,25 +27,19 @@ progress_back : (p : Progress) → again p ≡ p
 unfolding again
 progress_back p = λ j. record { left = p.left; second = flag_back p.second j; upper = p.upper }
 
-chain_back : (c : Chain) → chain_of (chain_word c) (stage_of (stage_word c) (again (progress_of c))) ≡ c
-unfolding look chain_of stage_of
-chain_back NoChain = refl
-chain_back (Of One Reload) = refl
-chain_back (Of Two Reload) = refl
-chain_back (Of One (Entries p)) = ap (λ q. Of One (Entries q)) (progress_back p)
-chain_back (Of Two (Entries p)) = ap (λ q. Of Two (Entries q)) (progress_back p)
+chain_back : (c : Option (Which × Stage)) → chain_of (chain_word c) (stage_of (stage_word c) (again (progress_of c))) ≡ c
+unfolding look find chain_of stage_of
+chain_back None = refl
+chain_back (Some (One, Reload)) = refl
+chain_back (Some (Two, Reload)) = refl
+chain_back (Some (One, Entries p)) = ap (λ q. Some (One, Entries q)) (progress_back p)
+chain_back (Some (Two, Entries p)) = ap (λ q. Some (Two, Entries q)) (progress_back p)
 
-bus_back : (b : Bus) → bus_of (bus_word b) ≡ b
-unfolding look bus_of
-bus_back Free = refl
-bus_back (Kept One) = refl
-bus_back (Kept Two) = refl
-
-served_back : (s : Served) → served_of (served_word s) ≡ s
-unfolding look served_of
-served_back Nobody = refl
-served_back (Last One) = refl
-served_back (Last Two) = refl
+which_back : (w : Option Which) → channel_of (channel_word w) ≡ w
+unfolding find channel_of
+which_back None = refl
+which_back (Some One) = refl
+which_back (Some Two) = refl
 
 abbrev pub HasByte : Channel → Type 0
 HasByte c = c.interrupt.vector % 256 ≡ c.interrupt.vector
@@ -59,7 +50,7 @@ channel_back c h = λ j. record { current = c.current; base = c.base; pattern = 
 -- what was stored is loaded again
 pub back : (u : Controller) → HasByte u.one → HasByte u.two → state_of (words_of u) ≡ u
 unfolding state_of words_of again
-back u h k = λ j. record { pointer = u.pointer; master = u.master; control = record { chain = chain_back u.control.chain j; bus = bus_back u.control.bus j; note = flag_back u.control.note j; served = served_back u.control.served j }; one = channel_back u.one h j; two = channel_back u.two k j }
+back u h k = λ j. record { pointer = u.pointer; master = u.master; control = record { chain = chain_back u.control.chain j; bus = which_back u.control.bus j; note = flag_back u.control.note j; served = which_back u.control.served j }; one = channel_back u.one h j; two = channel_back u.two k j }
 
 -- words that some state has are stored as they were
 pub forth : (u : Controller) → HasByte u.one → HasByte u.two → (w : List ℕ) → w ≡ words_of u → words_of (state_of w) ≡ w

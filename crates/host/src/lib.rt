@@ -4,12 +4,14 @@
 ghost use Rattle.std.specs.Prelude.{◌≡◌};
 ghost use Rattle.space.specs.Space.{spaces};
 ghost use Rattle.host_state.specs.Load.{state_of};
-ghost use Rattle.host_answer.specs.Numbers.{read_number};
+ghost use Rattle.host_answer.specs.Numbers.{number_of, read_number};
 ghost use Rattle.call_read.specs.Reading.{read_of};
-ghost use Rattle.host.specs.Calls.{returned, crossed, is_refusal, words_after, fresh_left, reset_left, pointed_left, written_left, lined_left, acknowledged_left, stepped_left, ran_left, why_answered};
+ghost use Rattle.host.specs.Calls.{returned, crossed, is_refusal, words_after, leaves, fresh_left, reset_left, pointed_left, written_left, lined_left, acknowledged_left, stepped_left, ran_left, why_answered};
 
+use host_answer::Told;
+use refusal::Refusal;
 use space_board::Board;
-use step::Controller;
+use step::{Controller, Done};
 
 fn is_refusal(number: u64) -> bool
     ensures { result ≡ is_refusal number }
@@ -26,6 +28,16 @@ fn store_unless_refused(state: &mut [u16; 72], number: u64, next: Controller)
         return;
     }
     *state = host_state::store(next);
+}
+
+// What a call that may be refused leaves, and its answer as a number.
+fn answered<A: Told>(state: &mut [u16; 72], done: Done<Result<A, Refusal>>) -> u32
+    ensures { returned result state.new ≡ leaves (number_of A.told done.answer) done.state state.old }
+{
+    let next = done.state;
+    let number = host_answer::number(done.answer);
+    store_unless_refused(state, number as u64, next);
+    number
 }
 
 #[tactic(auto, unfolding(crate::specs::Calls::fresh_left))]
@@ -66,19 +78,14 @@ pub fn einflyga_write(state: &mut [u16; 72], value: u16) -> u32
 {
     let entry = *state;
     let u = host_state::load(entry);
-    let written = call_write::write(value, u);
-    let next = written.state;
-    let answer = written.answer;
-    let number = host_answer::write_number(answer);
-    store_unless_refused(state, number as u64, next);
-    number
+    answered(state, call_write::write(value, u))
 }
 
 pub fn einflyga_read(state: &[u16; 72]) -> u32
     ensures { result ≡ read_number (read_of (state_of state.now)) }
 {
     let entry = *state;
-    host_answer::read_number(call_read::read(host_state::load(entry)))
+    host_answer::number(call_read::read(host_state::load(entry)))
 }
 
 #[tactic(auto, unfolding(crate::specs::Calls::lined_left))]
@@ -87,12 +94,7 @@ pub fn einflyga_line(state: &mut [u16; 72], channel: u32, active: bool) -> u32
 {
     let entry = *state;
     let u = host_state::load(entry);
-    let lined = call_line::line(channel, active, u);
-    let next = lined.state;
-    let answer = lined.answer;
-    let number = host_answer::line_number(answer);
-    store_unless_refused(state, number as u64, next);
-    number
+    answered(state, call_line::line(channel, active, u))
 }
 
 #[tactic(auto, unfolding(crate::specs::Calls::acknowledged_left))]
@@ -101,12 +103,7 @@ pub fn einflyga_acknowledge(state: &mut [u16; 72]) -> u32
 {
     let entry = *state;
     let u = host_state::load(entry);
-    let acknowledged = call_acknowledge::acknowledge(u);
-    let next = acknowledged.state;
-    let answer = acknowledged.answer;
-    let number = host_answer::ack_number(answer);
-    store_unless_refused(state, number as u64, next);
-    number
+    answered(state, call_acknowledge::acknowledge(u))
 }
 
 #[tactic(auto, using(call_run::proofs::Laws::by_one), unfolding(crate::specs::Calls::stepped_left))]
@@ -144,5 +141,5 @@ pub fn einflyga_why(state: &[u16; 72], channel: u32, memory: usize, io: usize) -
 {
     let entry = *state;
     let u = host_state::load(entry);
-    host_answer::why_number(standstill::why(channel, Board { memory, io }, u))
+    host_answer::number(standstill::why(channel, Board { memory, io }, u))
 }

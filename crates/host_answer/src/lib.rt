@@ -1,29 +1,17 @@
 // Each answer as one number, for a host in another language.
 #![tactic(auto)]
 
-ghost use Rattle.std.specs.Prelude.{◌≡◌};
-ghost use Rattle.step.specs.Answers.{channel_number};
+ghost use Rattle.std.specs.Prelude.{◌≡◌, ℕ};
 ghost use Rattle.standstill.specs.Answers.{cause_number};
-ghost use Rattle.host_answer.specs.Numbers.{unit_half, fetch_half, word_kind, step_number, run_number, read_number, write_number, line_number, ack_number, why_number, packed};
+ghost use Rattle.host_answer.specs.Numbers.{unit_half, fetch_half, word_kind, step_number, run_number, packed, number_of, acknowledged_told, cause_told};
 
-use call_acknowledge::AckAnswer;
-use call_command::Writing;
-use call_line::LineAnswer;
-use call_read::Reading;
+use call_acknowledge::Acknowledgement;
 use port::Which;
-use standstill::{Cause, WhyAnswer};
+use refusal::Refusal;
+use standstill::Cause;
 use step::Answer;
 use step_bus::Back;
 use word_mode::Reasons;
-
-fn channel_number(w: Which) -> u8
-    ensures { result ≡ channel_number w }
-{
-    match w {
-        Which::One => 1,
-        Which::Two => 2,
-    }
-}
 
 // The upper half of a unit's answer: the channel, the end reasons above it, and the number of changes of bits 23-16 above them.
 fn unit_half(channel: u8, why: Reasons, upper: u16) -> u16
@@ -54,18 +42,18 @@ pub fn step_number(a: Answer) -> u32
     ensures { result ≡ step_number a }
 {
     match a {
-        Answer::Refused(n) => n as u32,
+        Answer::Refused(r) => u8::from(r) as u32,
         Answer::Disabled => pack(0, 0),
         Answer::Idle => pack(1, 0),
         Answer::GivenBack(b) => match b {
             Back::Note => pack(2, 0),
             Back::Bus => pack(3, 0),
         },
-        Answer::Holding(w) => pack(4, channel_number(w) as u16),
-        Answer::Fetched(w, d) => pack(5, fetch_half(channel_number(w), d.upper)),
-        Answer::Dropped(w) => pack(6, channel_number(w) as u16),
-        Answer::Unit(w, d) => pack(7, unit_half(channel_number(w), d.why, d.upper)),
-        Answer::Ended(w) => pack(8, channel_number(w) as u16),
+        Answer::Holding(w) => pack(4, u8::from(w) as u16),
+        Answer::Fetched(w, d) => pack(5, fetch_half(u8::from(w), d.upper)),
+        Answer::Dropped(w) => pack(6, u8::from(w) as u16),
+        Answer::Unit(w, d) => pack(7, unit_half(u8::from(w), d.why, d.upper)),
+        Answer::Ended(w) => pack(8, u8::from(w) as u16),
     }
 }
 
@@ -76,33 +64,6 @@ pub fn run_number(steps: u32, a: Answer) -> u64
     steps as u64 * 4294967296 + step_number(a) as u64
 }
 
-pub fn read_number(a: Reading) -> u32
-    ensures { result ≡ read_number a }
-{
-    match a {
-        Reading::Refused(n) => n as u32,
-        Reading::Value(v) => pack(0, v),
-    }
-}
-
-pub fn write_number(a: Writing) -> u32
-    ensures { result ≡ write_number a }
-{
-    match a {
-        Writing::Refused(n) => n as u32,
-        Writing::Taken => 0,
-    }
-}
-
-pub fn line_number(a: LineAnswer) -> u32
-    ensures { result ≡ line_number a }
-{
-    match a {
-        LineAnswer::Refused(n) => n as u32,
-        LineAnswer::Taken => 0,
-    }
-}
-
 // The channel, with bit 2 set: there is a word.
 fn word_kind(w: Which) -> u8
     ensures { result ≡ word_kind w }
@@ -110,16 +71,6 @@ fn word_kind(w: Which) -> u8
     match w {
         Which::One => 5,
         Which::Two => 6,
-    }
-}
-
-pub fn ack_number(a: AckAnswer) -> u32
-    ensures { result ≡ ack_number a }
-{
-    match a {
-        AckAnswer::Refused(n) => n as u32,
-        AckAnswer::Word(w, v) => pack(word_kind(w), v),
-        AckAnswer::NoWord(w) => pack(channel_number(w), 0),
     }
 }
 
@@ -145,11 +96,56 @@ fn cause_number(c: Cause) -> u8
     }
 }
 
-pub fn why_number(a: WhyAnswer) -> u32
-    ensures { result ≡ why_number a }
+// What a call that was carried out tells, above bits 7-0.
+pub trait Told {
+    ghost told: { Self → ℕ };
+
+    fn told(self) -> u32
+        ensures { result ≡ told self };
+}
+
+impl Told for () {
+    ghost told = { λ _. 0 };
+
+    fn told(self) -> u32 {
+        0
+    }
+}
+
+// The register that was read.
+impl Told for u16 {
+    ghost told = { packed 0 };
+
+    fn told(self) -> u32 {
+        pack(0, self)
+    }
+}
+
+impl Told for Acknowledgement {
+    ghost told = { acknowledged_told };
+
+    fn told(self) -> u32 {
+        match self {
+            Acknowledgement::Word(w, v) => pack(word_kind(w), v),
+            Acknowledgement::NoWord(w) => pack(u8::from(w), 0),
+        }
+    }
+}
+
+impl Told for Cause {
+    ghost told = { cause_told };
+
+    fn told(self) -> u32 {
+        pack(cause_number(self), 0)
+    }
+}
+
+// The answer of a call that may be refused.
+pub fn number<A: Told>(answer: Result<A, Refusal>) -> u32
+    ensures { result ≡ number_of A.told answer }
 {
-    match a {
-        WhyAnswer::Refused(n) => n as u32,
-        WhyAnswer::Because(c) => pack(cause_number(c), 0),
+    match answer {
+        Err(r) => u8::from(r) as u32,
+        Ok(a) => a.told(),
     }
 }

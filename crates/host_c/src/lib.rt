@@ -1,4 +1,4 @@
-// The exports for programs in C and Rust: each is the call of its name in host.
+// The exports for programs in C and Rust, each written out, since C's interface is their names: each is the call of its name in host.
 #![tactic(auto)]
 
 ghost use Rattle.std.specs.Prelude.{◌≡◌};

@@ -1,49 +1,40 @@
 -- The state as 72 words that a host keeps: one field a word, in this order. Assumes nothing.
-use Rattle.std.specs.Prelude.{ℕ, suc, set, Bool, true, false, List, [], ◌∷◌, ◌++◌}
+use Rattle.std.specs.Prelude.{ℕ, suc, set, Bool, true, false, List, [], ◌∷◌, ◌++◌, None, Option, Some}
 use Rattle.word_reload.specs.declared.Progress.{Progress}
 use Rattle.word_reload.specs.declared.Stage.TheVariants.{Reload, Entries}
 use Rattle.channel.specs.declared.Channel.{Channel}
-use Rattle.step_bus.specs.declared.Chain.{Chain}
-use Rattle.step_bus.specs.declared.Chain.TheVariants.{NoChain, Of}
-use Rattle.step_bus.specs.declared.Bus.{Bus}
-use Rattle.step_bus.specs.declared.Bus.TheVariants.{Free, Kept}
-use Rattle.step_bus.specs.declared.Served.{Served}
-use Rattle.step_bus.specs.declared.Served.TheVariants.{Nobody, Last}
 use Rattle.step.specs.declared.Controller.{Controller}
-use Rattle.step.specs.Answers.{channel_number}
+use Rattle.port.specs.Ports.{channel_number}
+use Rattle.port.specs.declared.Which.{Which}
+use Rattle.word_reload.specs.declared.Stage.{Stage}
 
 abbrev pub bit : Bool → ℕ
 bit true = 1
 bit false = 0
 
 -- The chain under way: its channel, or 0.
-abbrev pub chain_word : Chain → ℕ
-chain_word NoChain = 0
-chain_word (Of w s) = channel_number w
+abbrev pub chain_word : Option (Which × Stage) → ℕ
+chain_word None = 0
+chain_word (Some (w, s)) = channel_number w
 
 -- 0 where its reload word is fetched next, 1 where its entries are.
-abbrev pub stage_word : Chain → ℕ
-stage_word NoChain = 0
-stage_word (Of w Reload) = 0
-stage_word (Of w (Entries p)) = 1
+abbrev pub stage_word : Option (Which × Stage) → ℕ
+stage_word None = 0
+stage_word (Some (w, Reload)) = 0
+stage_word (Some (w, Entries p)) = 1
 
 abbrev pub no_progress : Progress
 no_progress = record { left = 0; second = false; upper = 0 }
 
-abbrev pub progress_of : Chain → Progress
-progress_of NoChain = no_progress
-progress_of (Of w Reload) = no_progress
-progress_of (Of w (Entries p)) = p
+abbrev pub progress_of : Option (Which × Stage) → Progress
+progress_of None = no_progress
+progress_of (Some (w, Reload)) = no_progress
+progress_of (Some (w, Entries p)) = p
 
--- The channel that keeps the bus, or 0.
-abbrev pub bus_word : Bus → ℕ
-bus_word Free = 0
-bus_word (Kept w) = channel_number w
-
--- The channel served last, or 0.
-abbrev pub served_word : Served → ℕ
-served_word Nobody = 0
-served_word (Last w) = channel_number w
+-- The channel that keeps the bus, and the channel served last: its number, or 0.
+abbrev pub channel_word : Option Which → ℕ
+channel_word None = 0
+channel_word (Some w) = channel_number w
 
 abbrev pub channel_words : Channel → List ℕ
 channel_words c =
@@ -97,7 +88,7 @@ words_with chain stage p bus served u =
 unfoldable pub words_of : Controller → List ℕ
 words_of u =
     let k = u.control in
-    words_with (chain_word k.chain) (stage_word k.chain) (progress_of k.chain) (bus_word k.bus) (served_word k.served) u
+    words_with (chain_word k.chain) (stage_word k.chain) (progress_of k.chain) (channel_word k.bus) (channel_word k.served) u
 
 -- Values put into a list one after the other, from number `at` on.
 unfoldable pub put_from : ℕ → List ℕ → List ℕ → List ℕ

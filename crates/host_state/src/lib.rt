@@ -2,86 +2,57 @@
 #![tactic(auto)]
 
 ghost use Rattle.std.specs.Prelude.{◌≤◌, length, ◌≡◌};
-ghost use Rattle.step.specs.Answers.{channel_number};
-ghost use Rattle.host_state.specs.Store.{chain_word, stage_word, progress_of, bus_word, served_word, channel_words, put_from, words_of};
-ghost use Rattle.host_state.specs.Load.{stage_of, chain_of, bus_of, served_of, channel_at, state_of};
+ghost use Rattle.host_state.specs.Store.{chain_word, stage_word, progress_of, channel_word, channel_words, put_from, words_of};
+ghost use Rattle.host_state.specs.Load.{stage_of, chain_of, channel_of, channel_at, state_of};
 
 use channel::{Channel, Interrupt, Status};
 use channel_request::Line;
 use port::Which;
 use step::Controller;
-use step_bus::{Bus, Chain, Control, Served};
+use step_bus::Control;
 use word_address::{Address, Set};
 use word_mode::{Mode, Reasons};
 use word_reload::{Progress, Stage};
 
 // ---- the words of a state
 
-fn channel_word(w: Which) -> u16
-    ensures { result ≡ channel_number w }
+fn chain_word(chain: Option<(Which, Stage)>) -> u16
+    ensures { result ≡ chain_word chain }
 {
-    match w {
-        Which::One => 1,
-        Which::Two => 2,
+    match chain {
+        None => 0,
+        Some((w, _)) => u8::from(w) as u16,
     }
 }
 
-fn chain_word(c: Chain) -> u16
-    ensures { result ≡ chain_word c }
+fn stage_word(chain: Option<(Which, Stage)>) -> u16
+    ensures { result ≡ stage_word chain }
 {
-    match c {
-        Chain::NoChain => 0,
-        Chain::Of(w, _) => channel_word(w),
+    match chain {
+        Some((_, Stage::Entries(_))) => 1,
+        _ => 0,
     }
 }
 
-fn stage_word(c: Chain) -> u16
-    ensures { result ≡ stage_word c }
+fn progress_of(chain: Option<(Which, Stage)>) -> Progress
+    ensures { result ≡ progress_of chain }
 {
-    match c {
-        Chain::NoChain => 0,
-        Chain::Of(_, s) => match s {
-            Stage::Reload => 0,
-            Stage::Entries(_) => 1,
-        },
-    }
-}
-
-fn progress_of(c: Chain) -> Progress
-    ensures { result ≡ progress_of c }
-{
-    match c {
-        Chain::NoChain => Progress {
+    match chain {
+        Some((_, Stage::Entries(p))) => p,
+        _ => Progress {
             left: 0,
             second: false,
             upper: 0,
         },
-        Chain::Of(_, s) => match s {
-            Stage::Reload => Progress {
-                left: 0,
-                second: false,
-                upper: 0,
-            },
-            Stage::Entries(p) => p,
-        },
     }
 }
 
-fn bus_word(b: Bus) -> u16
-    ensures { result ≡ bus_word b }
+fn channel_word(w: Option<Which>) -> u16
+    ensures { result ≡ channel_word w }
 {
-    match b {
-        Bus::Free => 0,
-        Bus::Kept(w) => channel_word(w),
-    }
-}
-
-fn served_word(s: Served) -> u16
-    ensures { result ≡ served_word s }
-{
-    match s {
-        Served::Nobody => 0,
-        Served::Last(w) => channel_word(w),
+    match w {
+        None => 0,
+        Some(w) => u8::from(w) as u16,
     }
 }
 
@@ -125,15 +96,12 @@ fn channel_words(c: Channel) -> [u16; 31]
 }
 
 // A channel's words, put in from number `at` on.
+#[tactic(auto, using(crate::proofs::Laws::put_whole))]
 fn put(w: &mut [u16; 72], at: usize, words: &[u16; 31])
     requires { (at ≤ 41) × (length words.now ≡ 31) }
     ensures { w.new ≡ put_from at words.now w.old }
 {
-    let mut k = 0;
-    while k < 31 {
-        w[at + k] = words[k];
-        k += 1;
-    }
+    w[at..at + 31].copy_from_slice(words);
 }
 
 #[tactic(auto, unfolding(crate::specs::Store::put_from, crate::specs::Store::words_of))]
@@ -153,9 +121,9 @@ pub fn store(u: Controller) -> [u16; 72]
     w[4] = progress.left;
     w[5] = progress.second as u16;
     w[6] = progress.upper;
-    w[7] = bus_word(bus);
+    w[7] = channel_word(bus);
     w[8] = control.note as u16;
-    w[9] = served_word(served);
+    w[9] = channel_word(served);
     put(&mut w, 10, &channel_words(u.one));
     put(&mut w, 41, &channel_words(u.two));
     w
@@ -173,36 +141,25 @@ fn stage_of(t: u16, p: Progress) -> Stage
     }
 }
 
-#[tactic(auto, using(facts::proofs::Look::look_none), unfolding(crate::specs::Load::chain_of, facts::specs::Look::look))]
-fn chain_of(t: u16, s: Stage) -> Chain
+#[tactic(auto, using(facts::proofs::Look::find_none), unfolding(crate::specs::Load::chain_of, facts::specs::Look::find))]
+fn chain_of(t: u16, s: Stage) -> Option<(Which, Stage)>
     ensures { result ≡ chain_of t s }
 {
     match t {
-        1 => Chain::Of(Which::One, s),
-        2 => Chain::Of(Which::Two, s),
-        _ => Chain::NoChain,
+        1 => Some((Which::One, s)),
+        2 => Some((Which::Two, s)),
+        _ => None,
     }
 }
 
-#[tactic(auto, using(facts::proofs::Look::look_none), unfolding(crate::specs::Load::bus_of, facts::specs::Look::look))]
-fn bus_of(t: u16) -> Bus
-    ensures { result ≡ bus_of t }
+#[tactic(auto, using(facts::proofs::Look::find_none), unfolding(crate::specs::Load::channel_of, facts::specs::Look::find))]
+fn channel_of(t: u16) -> Option<Which>
+    ensures { result ≡ channel_of t }
 {
     match t {
-        1 => Bus::Kept(Which::One),
-        2 => Bus::Kept(Which::Two),
-        _ => Bus::Free,
-    }
-}
-
-#[tactic(auto, using(facts::proofs::Look::look_none), unfolding(facts::specs::Look::look, crate::specs::Load::served_of))]
-fn served_of(t: u16) -> Served
-    ensures { result ≡ served_of t }
-{
-    match t {
-        1 => Served::Last(Which::One),
-        2 => Served::Last(Which::Two),
-        _ => Served::Nobody,
+        1 => Some(Which::One),
+        2 => Some(Which::Two),
+        _ => None,
     }
 }
 
@@ -283,8 +240,8 @@ pub fn load(w: [u16; 72]) -> Controller
         },
     );
     let chain = chain_of(w[2], stage);
-    let bus = bus_of(w[7]);
-    let served = served_of(w[9]);
+    let bus = channel_of(w[7]);
+    let served = channel_of(w[9]);
     Controller {
         pointer: w[0],
         master: w[1],

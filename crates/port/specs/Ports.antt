@@ -1,5 +1,8 @@
 -- Document 01, "Registers": the ports, channel 1/channel 2, hexadecimal. Assumes nothing.
-use Rattle.std.specs.Prelude.{ℕ, ◌*◌, ◌/◌, ◌%◌, Bool, true, false, List, [], ◌∷◌}
+use Rattle.std.specs.Prelude.{ℕ, ◌*◌, ◌/◌, ◌%◌, Bool, true, false, List, [], ◌∷◌, Result, Ok, Err}
+use Rattle.facts.specs.Look.{look}
+use Rattle.refusal.specs.declared.Refusal.{Refusal}
+use Rattle.refusal.specs.declared.Refusal.TheVariants.{NoChannel}
 use Rattle.port.specs.declared.Which.{Which}
 use Rattle.port.specs.declared.Which.TheVariants.{One, Two}
 use Rattle.port.specs.declared.Register.{Register}
@@ -46,3 +49,11 @@ is_other Two Two = false
 abbrev pub other : Which → Which
 other One = Two
 other Two = One
+
+abbrev pub channel_number : Which → ℕ
+channel_number One = 1
+channel_number Two = 2
+
+-- 10: channel other than 1 or 2
+unfoldable pub channel_at : ℕ → Result Which Refusal
+channel_at n = look (Err NoChannel) n ((1, Ok One) ∷ (2, Ok Two) ∷ [])

@@ -7,6 +7,8 @@ use Prim.Native.Nat.{ℕ}
 use native.Mathlib.Omega.{arith}
 use borrow.Author.Tests.{lt-ltb, le-ltb}
 use lib.Dec.{ltb}
+use Rattle.refusal.specs.declared.Refusal.{Refusal}
+use Rattle.refusal.specs.declared.Refusal.TheVariants.{LongRun}
 use Rattle.facts.specs.First.{first_of}
 use Rattle.facts.proofs.First.{exactly}
 use Rattle.space.specs.Space.{Spaces}
@@ -35,9 +37,9 @@ use Rattle.promises.proofs.Refusals.{read_refused, write_refused, line_refused, 
 use Rattle.promises.proofs.Running as running
 
 -- a refused step's answer has its number and nothing else
-told_only : (o : Outcome) (k n : ℕ) (u : Controller) (z : Spaces) → o ≡ outcome (says u (answer.Refused n)) z
+told_only : (o : Outcome) (k : ℕ) (r : Refusal) (u : Controller) (z : Spaces) → o ≡ outcome (says u (answer.Refused r)) z
     → step_told (paper o.stepped.answer) k ≡ only (paper o.stepped.answer).number k
-told_only o k n u z e = subst (λ (x : Outcome). step_told (paper x.stepped.answer) k ≡ only (paper x.stepped.answer).number k) (sym e) refl
+told_only o k r u z e = subst (λ (x : Outcome). step_told (paper x.stepped.answer) k ≡ only (paper x.stepped.answer).number k) (sym e) refl
 
 -- ---- a run
 
@@ -86,10 +88,10 @@ module _ (budget : ℕ) (m : Machine) where
         let k : r.steps ≡ h.at = omega arith in
         let x = iter step h.at m in
         let n = (step_refused false x.controller x.spaces).1 (λ y. q (ap (λ (o : Outcome). (paper o.stepped.answer).number) h.last ∙ y)) in
-        (ap left (h.last ∙ n) ∙ ap (λ (i : ℕ). iter step i m) (sym k), told_only r.last r.steps _ _ _ (h.last ∙ n))
+        (ap left (h.last ∙ n.1) ∙ ap (λ (i : ℕ). iter step i m) (sym k), told_only r.last r.steps n.0 _ _ (h.last ∙ n.1))
 
   abbrev too_long : RunOutcome
-  too_long = record { last = outcome (says m.controller (answer.Refused 11)) m.spaces; steps = 0 }
+  too_long = record { last = outcome (says m.controller (answer.Refused LongRun)) m.spaces; steps = 0 }
 
   run_number_lem : (b : Bool) → ltb 65536 budget ≡ b → number ≡ first_of (run_table budget m)
   run_number_lem true e =
@@ -144,8 +146,8 @@ demand1 (Call.step eop) m =
     let l = step_refused eop m.controller m.spaces in
     record {
       refusals = exactly 0 (paper (step_of eop m.controller m.spaces).stepped.answer).number (table (Call.step eop) m) l.0;
-      keeps = λ h. ap left (l.1 h);
-      nothing = λ h. told_only (step_of eop m.controller m.spaces) 0 _ _ _ (l.1 h);
+      keeps = λ h. ap left (l.1 h).1;
+      nothing = λ h. told_only (step_of eop m.controller m.spaces) 0 (l.1 h).0 _ _ (l.1 h).1;
     }
 demand1 (Call.run budget) m = record {
   refusals = exactly 0 (number budget m) (table (Call.run budget) m) (run_number_lem budget m (ltb 65536 budget) refl);

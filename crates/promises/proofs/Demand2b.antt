@@ -35,7 +35,8 @@ use Rattle.channel.specs.declared.Channel.{Channel}
 use Rattle.channel.proofs.Laws.{ends_exactly}
 use Rattle.channel.specs.Ending.{reasons_of}
 use Rattle.step_rules.specs.declared.Choice.TheVariants as chosen
-use Rattle.step.specs.Answers.{Paper, unit, channel_number, paper}
+use Rattle.port.specs.Ports.{channel_number}
+use Rattle.step.specs.Answers.{Paper, unit, paper}
 use Rattle.step.specs.Step.{work_of, perform_of}
 use Rattle.port.specs.declared.Which.{Which}
 use Rattle.promises.specs.Machine.{Machine, answer, channel, unit_reads}

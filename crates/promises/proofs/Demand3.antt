@@ -6,6 +6,9 @@ use mathlib.Core.Bool.{Bool, true, false, not, cond, ◌&&◌, ◌||◌}
 use mathlib.Core.List.{List, ◌∷◌}
 use Prim.Native.Nat.{ℕ, zero, suc, ◌≤◌}
 use native.Mathlib.Omega.{arith}
+use Rattle.refusal.specs.declared.Refusal.{Refusal}
+use Rattle.refusal.proofs.Laws.{numbers}
+use Rattle.std.specs.Prelude.{None, Option, Some}
 use Rattle.space.specs.Space.{Spaces}
 use Rattle.space.proofs.Laws.{size_refl}
 use Rattle.unit_laws.proofs.Inter.{move}
@@ -28,17 +31,14 @@ use Rattle.unit.specs.Unit.{worked}
 use Rattle.channel.specs.declared.Channel.{Channel}
 use Rattle.channel.specs.Candidate.{is_candidate, interleaves}
 use Rattle.channel.specs.Ending.{moved_by, reasons_of, unended, unended_by, after_by, after_unit}
-use Rattle.step_bus.specs.declared.Served.{Served}
-use Rattle.step_bus.specs.declared.Served.TheVariants.{Nobody, Last}
 use Rattle.step.specs.declared.Controller.{Controller}
 use Rattle.step_rules.specs.declared.Choice.{Choice}
 use Rattle.step_rules.specs.declared.Choice.TheVariants as chosen
 use Rattle.step_bus.specs.declared.Control.{Control}
 use Rattle.step.specs.Answers.{none}
 use Rattle.step.specs.Controller.{at, with}
-use Rattle.step_rules.specs.declared.Turn.TheVariants.{Whose}
 use Rattle.step_rules.proofs.Turns.{next_up, takes_turns}
-use Rattle.facts.specs.First.{first_of}
+use Rattle.facts.specs.First.{first_some}
 use Rattle.space_board.specs.declared.Board.{Board}
 use Rattle.space_board.specs.Board.{board_of}
 use Rattle.step_rules.specs.Rules.{refusals, refused_or, is_interleaved, turn_by}
@@ -59,7 +59,7 @@ use Rattle.promises.specs.Demand3.{Interleaving, Start, Fine, state, unit_alone,
 
 abbrev turn_of : Choice → Moving
 turn_of chosen.Disabled = back
-turn_of (chosen.Refused n) = back
+turn_of (chosen.Refused r) = back
 turn_of (chosen.Fetch w s) = back
 turn_of chosen.GiveBack = back
 turn_of (chosen.Unit One) = first
@@ -68,10 +68,10 @@ turn_of (chosen.Hold w) = back
 turn_of chosen.Release = back
 turn_of chosen.Idle = back
 
-abbrev latest : Served → LatestMover
-latest Nobody = nobody
-latest (Last One) = channel1
-latest (Last Two) = channel2
+abbrev latest : Option Which → LatestMover
+latest None = nobody
+latest (Some One) = channel1
+latest (Some Two) = channel2
 
 abbrev view : View Machine Channel Channel
 view = record { step = step; turn = λ m. turn_of (next_choice m); served = λ m. latest m.controller.control.served; state = state }
@@ -89,15 +89,15 @@ interleaves_ready : (c : Channel) → Interleaving c → interleaves c ≡ true
 unfolding interleaves
 interleaves_ready c h = λ i. not (h.pending i) && is_interleave (h.mode i)
 
-abbrev expected : Bool → Served → Board → Controller → Choice
+abbrev expected : Bool → Option Which → Board → Controller → Choice
 expected true s b u = chosen.GiveBack
-expected false s b u = let c = chosen.Unit (next_up s) in refused_or (first_of (refusals c (faults_of b u))) c
+expected false s b u = let c = chosen.Unit (next_up s) in refused_or (first_some (refusals c (faults_of b u))) c
 
 module _ (m : Machine) (h : Start m) where
   abbrev u : Controller
   u = m.controller
 
-  turns : turn u ≡ Whose (next_up u.control.served)
+  turns : turn u ≡ Some (next_up u.control.served)
   unfolding turn
   turns =
       (λ i. turn_by (candidate_ready u.one h.one i) (candidate_ready u.two h.two i)
@@ -119,10 +119,10 @@ module _ (m : Machine) (h : Start m) where
   choice_of_lem : next_choice m ≡ expected m.controller.control.note m.controller.control.served (board_of m.spaces) m.controller
   choice_of_lem = by_note u.control.note refl
 
-picks_next : (s : Served) → Picks (turn_of (chosen.Unit (next_up s))) (latest s)
-picks_next Nobody = tt
-picks_next (Last One) = tt
-picks_next (Last Two) = tt
+picks_next : (s : Option Which) → Picks (turn_of (chosen.Unit (next_up s))) (latest s)
+picks_next None = tt
+picks_next (Some One) = tt
+picks_next (Some Two) = tt
 
 -- ---- what a step does
 
@@ -213,21 +213,21 @@ record Does (z : Spaces) (c : Choice) (m : Machine) : Type 0 where
   kind : Turned (by c m).stepped.answer
 
 module _ (z : Spaces) (m : Machine) (h : Start m) where
-  unit_or_refused : (s : Served) → m.controller.control.served ≡ s → (k : ℕ)
+  unit_or_refused : (s : Option Which) → m.controller.control.served ≡ s → (k : Option Refusal)
       → Fine (by (refused_or k (chosen.Unit (next_up s))) m).stepped.answer → Does z (refused_or k (chosen.Unit (next_up s))) m
   unfolding perform_of unit_of
-  unit_or_refused s e zero f = record {
+  unit_or_refused s e None f = record {
     kept = unit_kept z m h (next_up s) f.1;
-    picks = subst (λ (x : Served). Picks (turn_of (chosen.Unit (next_up s))) (latest x)) (sym e) (picks_next s);
+    picks = subst (λ (x : Option Which). Picks (turn_of (chosen.Unit (next_up s))) (latest x)) (sym e) (picks_next s);
     kind = inr (refl, f.1);
   }
-  unit_or_refused s e (suc k) f = let x = f.0 in absurd (omega arith)
+  unit_or_refused s e (Some r) f = let x = f.0 in let n = (numbers r).0 in absurd (omega arith)
 
   as_expected : (n : Bool) → Fine (by (expected n m.controller.control.served (board_of m.spaces) m.controller) m).stepped.answer
       → Does z (expected n m.controller.control.served (board_of m.spaces) m.controller) m
   unfolding perform_of
   as_expected true f = record { kept = given z m h; picks = tt; kind = inl refl }
-  as_expected false f = let s = m.controller.control.served in unit_or_refused s refl (first_of (refusals (chosen.Unit (next_up s)) (faults_of (board_of m.spaces) m.controller))) f
+  as_expected false f = let s = m.controller.control.served in unit_or_refused s refl (first_some (refusals (chosen.Unit (next_up s)) (faults_of (board_of m.spaces) m.controller))) f
 
 -- a step of the stretch, and what is kept from its first machine on
 record Law (z : Spaces) (m : Machine) : Type 0 where
@@ -263,7 +263,7 @@ mine w back = false
 
 own_mine : (w : Which) (c : Choice) → mine w (turn_of c) ≡ owns w c
 own_mine w chosen.Disabled = refl
-own_mine w (chosen.Refused n) = refl
+own_mine w (chosen.Refused r) = refl
 own_mine w (chosen.Fetch v s) = refl
 own_mine w chosen.GiveBack = refl
 own_mine w (chosen.Unit One) = refl

@@ -6,6 +6,7 @@ use Prim.Native.Nat.{ℕ, ◌+◌, ◌*◌, ◌/◌, ◌%◌, ◌<◌}
 use native.Mathlib.Omega.{arith}
 use lib.Dec.{ltb, ltb→lt}
 use lib.ListN.{length, get_or}
+use Rattle.port.specs.Ports.{channel_at}
 use Rattle.facts.proofs.Below.{below}
 use Rattle.facts.specs.Look.{look}
 use Rattle.space.specs.declared.Width.TheVariants.{Byte, Word}
@@ -104,7 +105,7 @@ abbrev pub three : Areas
 three = record { units = 3; words = register 0; bytes = register 8; home = register 14 }
 
 same_size : SameSize (before there) (before back)
-unfolding working call lined_at lined step_of perform_of choice choice_of intent_of turn is_candidate requests interleaves unit_refusal odd_word worked datum_at stored_at moved_of compared comparison stepped_set place_of stepped_on direction_of operation_of request_mode_of look unit_of at with after_unit moved_by some unended
+unfolding working call lined_at channel_at lined step_of perform_of choice choice_of intent_of turn is_candidate requests interleaves unit_refusal odd_word worked datum_at stored_at moved_of compared comparison stepped_set place_of stepped_on direction_of operation_of request_mode_of look unit_of at with after_unit moved_by some unended
 same_size = record { at = by_space }
   where
     by_space : (k : Space) → length (list_of k (before there)) ≡ length (list_of k (before back))
@@ -112,7 +113,7 @@ same_size = record { at = by_space }
     by_space in_io = refl
 
 there_and_back : ThereAndBack three there back
-unfolding working call lined_at lined step_of perform_of choice choice_of intent_of turn is_candidate requests interleaves unit_refusal odd_word worked datum_at stored_at moved_of compared comparison stepped_set place_of stepped_on direction_of operation_of request_mode_of look unit_of at with after_unit moved_by some unended
+unfolding working call lined_at channel_at lined step_of perform_of choice choice_of intent_of turn is_candidate requests interleaves unit_refusal odd_word worked datum_at stored_at moved_of compared comparison stepped_set place_of stepped_on direction_of operation_of request_mode_of look unit_of at with after_unit moved_by some unended
 there_and_back = record {
   registers = (words_of 0 (omega arith), words_of 8 (omega arith), words_of 14 (omega arith));
   apart = areas;

@@ -1,5 +1,6 @@
 -- What the funnel's two halves leave; apart from its statement, which an edit turns. Assumes nothing.
 use mathlib.Core.Path.{refl}
+use Rattle.port.specs.Ports.{channel_at}
 use Rattle.facts.specs.Look.{look}
 use Rattle.word_tag.specs.Tag.{direction_of}
 use Rattle.word_address.specs.Address.{place_of, stepped_on}
@@ -21,5 +22,5 @@ use Rattle.promises.proofs.InterleaveWitness.{working}
 use Rattle.promises.proofs.FunnelWitness.{WordsThere}
 
 pub funnelled : WordsThere
-unfolding working call lined_at lined step_of perform_of choice choice_of intent_of turn is_candidate requests interleaves unit_refusal odd_word worked datum_at stored_at moved_of compared comparison stepped_set place_of stepped_on direction_of operation_of request_mode_of look unit_of at with after_unit moved_by some unended
+unfolding working call lined_at channel_at lined step_of perform_of choice choice_of intent_of turn is_candidate requests interleaves unit_refusal odd_word worked datum_at stored_at moved_of compared comparison stepped_set place_of stepped_on direction_of operation_of request_mode_of look unit_of at with after_unit moved_by some unended
 funnelled = refl

@@ -5,6 +5,7 @@ use mathlib.Core.Bool.{false}
 use mathlib.Core.List.{List, [], ◌∷◌}
 use Prim.Native.Nat.{ℕ, zero, suc, ◌+◌, ◌<◌}
 use native.Mathlib.Omega.{arith}
+use Rattle.std.specs.Prelude.{None}
 use Rattle.facts.specs.Look.{look}
 use Rattle.space.specs.declared.Place.{Place}
 use Rattle.space.specs.declared.Place.TheVariants.{Memory, Io}
@@ -22,9 +23,6 @@ use Rattle.channel.specs.declared.Channel.{Channel}
 use Rattle.channel.specs.Candidate.{is_candidate, interleaves}
 use Rattle.channel_request.specs.Request.{requests}
 use Rattle.channel.specs.Ending.{moved_by, unended, after_unit}
-use Rattle.step_bus.specs.declared.Chain.TheVariants.{NoChain}
-use Rattle.step_bus.specs.declared.Bus.TheVariants.{Free}
-use Rattle.step_bus.specs.declared.Served.TheVariants.{Nobody}
 use Rattle.step.specs.Controller.{at, with}
 use Rattle.step.specs.Choice.{turn, choice}
 use Rattle.step_rules.specs.Rules.{intent_of, choice_of}
@@ -55,7 +53,7 @@ pair = record {
   controller = record {
     pointer = 0;
     master = 3;
-    control = record { chain = NoChain; bus = Free; note = false; served = Nobody };
+    control = record { chain = None; bus = None; note = false; served = None };
     one = working (record { a = record { upper = 0x40; lower = 0 }; b = record { upper = 0x40; lower = 2 }; count = 9 }) 0x10 0x61;
     two = working (record { a = record { upper = 0; lower = 0 }; b = record { upper = 0; lower = 4 }; count = 9 }) 0x10 0x61;
   };

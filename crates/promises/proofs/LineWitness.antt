@@ -1,6 +1,7 @@
 -- The search's promise is not empty in single either; apart from `by_line`, which an edit turns. Assumes nothing.
 use mathlib.Core.Path.{refl}
 use native.Mathlib.Omega.{arith}
+use Rattle.port.specs.Ports.{channel_at}
 use Rattle.facts.specs.Look.{look}
 use Rattle.unit_comparison.specs.Comparison.{comparison}
 use Rattle.word_tag.specs.Tag.{direction_of}
@@ -25,7 +26,7 @@ use Rattle.promises.proofs.InterleaveWitness.{working}
 use Rattle.promises.proofs.SearchWitness.{for_77, EndsThird, no_unit, third, by_line}
 
 pub line_witness : EndsThird (for_77 One 0x40) 11 by_line
-unfolding by_line enabled_for lined_at lined working call step_of perform_of choice choice_of intent_of turn is_candidate requests interleaves unit_refusal odd_word worked datum_at stored_at moved_of compared comparison stepped_set place_of stepped_on direction_of operation_of request_mode_of look unit_of at with after_unit moved_by some unended
+unfolding by_line enabled_for lined_at channel_at lined working call step_of perform_of choice choice_of intent_of turn is_candidate requests interleaves unit_refusal odd_word worked datum_at stored_at moved_of compared comparison stepped_set place_of stepped_on direction_of operation_of request_mode_of look unit_of at with after_unit moved_by some unended
 line_witness = let d = demand2b (for_77 One 0x40) 2 11 by_line stretch in (stretch, refl, d.reasons refl, d.left refl refl)
   where
     stretch : SearchStretch (for_77 One 0x40) 2 11 by_line

@@ -1,6 +1,7 @@
 -- What a step does to a channel and to the spaces, by whether it is a unit of that channel. For either channel. Assumes nothing.
 use mathlib.Core.Path.{◌≡◌, refl, sym, ap, ◌∙◌}
 use mathlib.Core.Bool.{Bool, true, false, not, true≢false}
+use Rattle.std.specs.Prelude.{None, Option, Some}
 use Rattle.space.specs.declared.Place.{Place}
 use Rattle.space.specs.declared.Width.TheVariants.{Word}
 use Rattle.space.specs.Space.{Spaces, get, value_in}
@@ -20,8 +21,6 @@ use Rattle.channel.specs.Set.{◌⟨line≔◌⟩}
 use Rattle.channel.specs.Ending.{reasons_of, after_unit}
 use Rattle.chain.specs.Chaining.{fetched_of}
 use Rattle.word_reload.specs.declared.Stage.{Stage}
-use Rattle.word_reload.specs.declared.Next.{Next}
-use Rattle.word_reload.specs.declared.Next.TheVariants.{More, Complete}
 use Rattle.step_bus.specs.declared.Control.{Control}
 use Rattle.step.specs.declared.Controller.{Controller}
 use Rattle.step_rules.specs.declared.Choice.{Choice}
@@ -40,10 +39,11 @@ use Rattle.promises.specs.Machine.{Machine, left, channel, unit_writes, unit_rea
 use Rattle.promises.proofs.Machine.{unit_spaces}
 use Rattle.port.specs.Ports.{other}
 use Rattle.promises.specs.Own.{same, owns, spares, chain_of_machine}
+use Rattle.word_reload.specs.declared.Progress.{Progress}
 
 abbrev pub fetches : Which → Choice → Bool
 fetches w chosen.Disabled = false
-fetches w (chosen.Refused n) = false
+fetches w (chosen.Refused r) = false
 fetches w (chosen.Fetch v s) = same w v
 fetches w chosen.GiveBack = false
 fetches w (chosen.Unit v) = false
@@ -88,12 +88,12 @@ pub record LeftAlone (w : Which) (m n : Machine) : Type 0 where
 abbrev pub by : Choice → Machine → Machine
 by c m = left (perform_of c false m.controller m.spaces)
 
-spared_fetch : (w v : Which) → same w v ≡ false → (x : Next) (cpu act : Bool) (k : Control) → spares w k.chain ≡ true
+spared_fetch : (w v : Which) → same w v ≡ false → (x : Option Progress) (cpu act : Bool) (k : Control) → spares w k.chain ≡ true
     → spares w (control_fetched x cpu act v k).chain ≡ true
-spared_fetch w v e (More p) cpu act k f = ap not e
-spared_fetch w v e Complete true act k f = refl
-spared_fetch w v e Complete false true k f = refl
-spared_fetch w v e Complete false false k f = refl
+spared_fetch w v e (Some p) cpu act k f = ap not e
+spared_fetch w v e None true act k f = refl
+spared_fetch w v e None false true k f = refl
+spared_fetch w v e None false false k f = refl
 
 spared_unit : (w v : Which) → same w v ≡ false → (ends : Bool) (r : RequestMode) (cpu chains : Bool) (k : Control) → spares w k.chain ≡ true
     → spares w (control_by ends r cpu chains v k).chain ≡ true
@@ -132,7 +132,7 @@ spared_moved w v m e f =
 pub rest_of : (w : Which) (c : Choice) (m : Machine) → owns w c ≡ false → fetches w c ≡ false → spares w (chain_of_machine m) ≡ true → LeftAlone w m (by c m)
 unfolding perform_of drop_of fetch_of unit_of hold_of at with fetched_control unit_control
 rest_of w chosen.Disabled m e f s = record { alone = refl; spared = s }
-rest_of w (chosen.Refused n) m e f s = record { alone = refl; spared = s }
+rest_of w (chosen.Refused r) m e f s = record { alone = refl; spared = s }
 rest_of One (chosen.Fetch One g) m e f s = absurd (true≢false f)
 rest_of One (chosen.Fetch Two g) m e f s = record { alone = refl; spared = spared_fetched One Two g m refl s }
 rest_of Two (chosen.Fetch One g) m e f s = record { alone = refl; spared = spared_fetched Two One g m refl s }
@@ -159,7 +159,7 @@ pub others_keep : (w : Which) (P : Place → Type 0) (c : Choice) (m : Machine)
     → Agree P (by c m).spaces m.spaces
 unfolding perform_of
 others_keep w P chosen.Disabled m u e l x = refl
-others_keep w P (chosen.Refused n) m u e l x = refl
+others_keep w P (chosen.Refused r) m u e l x = refl
 others_keep w P (chosen.Fetch v s) m u e l x = refl
 others_keep w P chosen.GiveBack m u e l x = refl
 others_keep One P (chosen.Unit One) m u e l x = absurd (true≢false e)

@@ -3,7 +3,7 @@
 use mathlib.Core.Path.{◌≡◌, refl, ap, subst, ◌∙◌}
 use mathlib.Core.Bool.{false}
 use Prim.Native.Nat.{ℕ, ◌+◌, ◌-◌}
-use Rattle.facts.specs.Look.{look}
+use Rattle.facts.specs.Look.{look, find}
 use Rattle.unit_comparison.specs.Comparison.{comparison}
 use Rattle.word_tag.specs.Tag.{direction_of}
 use Rattle.word_address.specs.Address.{stepped_on}
@@ -28,7 +28,7 @@ words_taken : (r n : ℕ) → words_of r ≡ n → TakesWords r n
 words_taken r n e m c k q = subst (λ (x : ℕ). WholeChain x (fetches_of m (x - 1 + k) 0 Reload c)) (ap words_of q ∙ e) (chain_length m c k)
 
 at_2_e : (w : ℕ) (u : Controller) → u.pointer ≡ 0x2E → write_of w u ≡ commanded (command_of w) One u
-unfolding write_of write_port look
+unfolding write_of write_port look find
 at_2_e w u e = ap (λ (p : ℕ). write_by (write_port p) w u) e
 
 same_one : (u : Controller) → with One (at One u) u ≡ u
@@ -39,15 +39,15 @@ obeyed : (w : ℕ) (u : Controller) → is_busy u ≡ false → commanded_by fal
 obeyed w u e = λ i. commanded_by false (e i) (command_of w) One u
 
 set_both : (u : Controller) → is_busy u ≡ false → commanded (command_of 0x36) One u ≡ takes (interrupting u)
-unfolding commanded command_of look
+unfolding commanded command_of look find
 set_both u e = obeyed 0x36 u e
 
 set_none : (u : Controller) → is_busy u ≡ false → commanded (command_of 0x20) One u ≡ takes u
-unfolding commanded command_of look
+unfolding commanded command_of look find
 set_none u e = obeyed 0x20 u e ∙ ap takes (same_one u)
 
 pub points : Points
-unfolding words_of stepped_on direction_of moved_of stepped_set upper_changes compared comparison operation_of look
+unfolding words_of stepped_on direction_of moved_of stepped_set upper_changes compared comparison operation_of look find
 points = record {
   p1 = words_taken 0x0282 6 refl;
   p2 = words_taken 0x03FF 18 refl;

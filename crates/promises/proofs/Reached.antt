@@ -1,12 +1,9 @@
 -- Promise D1d: every state that calls reach from a fresh controller is well formed. Assumes nothing.
 use mathlib.Core.Path.{◌≡◌, refl, subst}
 use mathlib.Core.List.{List, [], ◌∷◌}
+use Rattle.std.specs.Prelude.{None, Option, Some}
 use Rattle.port.specs.declared.Which.{Which}
 use Rattle.word_reload.specs.declared.Stage.{Stage}
-use Rattle.step_bus.specs.declared.Chain.{Chain}
-use Rattle.step_bus.specs.declared.Chain.TheVariants.{NoChain, Of}
-use Rattle.step_bus.specs.declared.Bus.{Bus}
-use Rattle.step_bus.specs.declared.Bus.TheVariants.{Free, Kept}
 use Rattle.step.specs.declared.Controller.{Controller}
 use Rattle.step.specs.Controller.{at}
 use Rattle.step_rules.specs.Rules.{is_enabled}
@@ -50,22 +47,22 @@ reached_well cs = calls_well cs fresh_of fresh_well
 
 -- ---- the owner of the bus, as it is said
 
-pub chain_owner : (u : Controller) (w : Which) (s : Stage) → WellFormed u → u.control.chain ≡ Of w s
-    → (u.control.bus ≡ Free) × Owner u.control.note (is_enabled u.master) (at w u)
+pub chain_owner : (u : Controller) (w : Which) (s : Stage) → WellFormed u → u.control.chain ≡ Some (w, s)
+    → (u.control.bus ≡ None) × Owner u.control.note (is_enabled u.master) (at w u)
 chain_owner u w s h e =
-    go u.control.bus (subst (λ (x : Chain). Owned x u.control.bus u.control.note (is_enabled u.master) (λ v. at v u)) e h.owned)
+    go u.control.bus (subst (λ (x : Option (Which × Stage)). Owned x u.control.bus u.control.note (is_enabled u.master) (λ v. at v u)) e h.owned)
   where
-    go : (bus : Bus) → Owned (Of w s) bus u.control.note (is_enabled u.master) (λ v. at v u)
-        → (bus ≡ Free) × Owner u.control.note (is_enabled u.master) (at w u)
-    go Free o = (refl, o)
-    go (Kept v) o = absurd o
+    go : (bus : Option Which) → Owned (Some (w, s)) bus u.control.note (is_enabled u.master) (λ v. at v u)
+        → (bus ≡ None) × Owner u.control.note (is_enabled u.master) (at w u)
+    go None o = (refl, o)
+    go (Some v) o = absurd o
 
-pub bus_keeper : (u : Controller) (w : Which) → WellFormed u → u.control.bus ≡ Kept w
-    → (u.control.chain ≡ NoChain) × Keeper u.control.note (is_enabled u.master) (at w u)
+pub bus_keeper : (u : Controller) (w : Which) → WellFormed u → u.control.bus ≡ Some w
+    → (u.control.chain ≡ None) × Keeper u.control.note (is_enabled u.master) (at w u)
 bus_keeper u w h e =
-    go u.control.chain (subst (λ (b : Bus). Owned u.control.chain b u.control.note (is_enabled u.master) (λ v. at v u)) e h.owned)
+    go u.control.chain (subst (λ (b : Option Which). Owned u.control.chain b u.control.note (is_enabled u.master) (λ v. at v u)) e h.owned)
   where
-    go : (chain : Chain) → Owned chain (Kept w) u.control.note (is_enabled u.master) (λ v. at v u)
-        → (chain ≡ NoChain) × Keeper u.control.note (is_enabled u.master) (at w u)
-    go NoChain o = (refl, o)
-    go (Of v s) o = absurd o
+    go : (chain : Option (Which × Stage)) → Owned chain (Some w) u.control.note (is_enabled u.master) (λ v. at v u)
+        → (chain ≡ None) × Keeper u.control.note (is_enabled u.master) (at w u)
+    go None o = (refl, o)
+    go (Some (v, s)) o = absurd o

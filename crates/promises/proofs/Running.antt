@@ -7,6 +7,7 @@ use Prim.Native.Nat.{ℕ, zero, suc}
 use native.Mathlib.Nat.{zero-lt-suc}
 use native.Mathlib.Omega.{arith}
 use lib.Dec.{ltb}
+use Rattle.refusal.specs.declared.Refusal.TheVariants.{LongRun}
 use Rattle.space.specs.Space.{Spaces}
 use Rattle.step.specs.declared.Controller.{Controller}
 use Rattle.step.specs.declared.Answer.{Answer}
@@ -20,7 +21,7 @@ use Rattle.promises.specs.Running.{machine, Whole, Stopped, Run}
 
 -- an answer that does not stop a run is no refusal
 going_on : (a : Answer) → stops a ≡ false → (paper a).number ≡ 0
-going_on (Refused n) e = absurd (true≢false e)
+going_on (Refused r) e = absurd (true≢false e)
 going_on Disabled e = refl
 going_on Idle e = refl
 going_on (GivenBack Note) e = refl
@@ -60,12 +61,12 @@ ran : (budget : ℕ) (u : Controller) (z : Spaces) → ltb 65536 budget ≡ fals
 unfolding run_of
 ran budget u z e =
     subst (λ (r : RunOutcome). Whole budget 0 (machine u z) r ⊎ Stopped budget 0 (machine u z) r)
-    (sym (ap (λ (b : Bool). cond b (record { last = outcome (says u (Refused 11)) z; steps = 0 }) (run_from budget 0 (outcome (says u Idle) z))) e))
+    (sym (ap (λ (b : Bool). cond b (record { last = outcome (says u (Refused LongRun)) z; steps = 0 }) (run_from budget 0 (outcome (says u Idle) z))) e))
     (ran_from budget 0 (outcome (says u Idle) z) refl)
 
-too_long : (budget : ℕ) (u : Controller) (z : Spaces) → ltb 65536 budget ≡ true → run_of budget u z ≡ record { last = outcome (says u (Refused 11)) z; steps = 0 }
+too_long : (budget : ℕ) (u : Controller) (z : Spaces) → ltb 65536 budget ≡ true → run_of budget u z ≡ record { last = outcome (says u (Refused LongRun)) z; steps = 0 }
 unfolding run_of
-too_long budget u z e = ap (λ (b : Bool). cond b (record { last = outcome (says u (Refused 11)) z; steps = 0 }) (run_from budget 0 (outcome (says u Idle) z))) e
+too_long budget u z e = ap (λ (b : Bool). cond b (record { last = outcome (says u (Refused LongRun)) z; steps = 0 }) (run_from budget 0 (outcome (says u Idle) z))) e
 
 pub run : (budget : ℕ) (u : Controller) (z : Spaces) → Run budget u z
 run budget u z = record { refused = too_long budget u z; carried = ran budget u z }

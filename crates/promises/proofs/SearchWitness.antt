@@ -7,6 +7,7 @@ use mathlib.Core.List.{[], ◌∷◌}
 use Prim.Native.Nat.{ℕ, zero, suc, ◌+◌, ◌*◌, ◌%◌, ◌≤◌, ◌<◌}
 use native.Mathlib.Nat.{not-suc-le-zero, le_of_suc-le-suc}
 use native.Mathlib.Omega.{arith}
+use Rattle.std.specs.Prelude.{None}
 use Rattle.facts.specs.Look.{look}
 use Rattle.space.specs.declared.Width.{Width}
 use Rattle.space.specs.declared.Width.TheVariants.{Byte, Word}
@@ -28,11 +29,9 @@ use Rattle.channel.specs.declared.Channel.{Channel}
 use Rattle.channel.specs.Candidate.{is_candidate, interleaves}
 use Rattle.channel_request.specs.Request.{requests}
 use Rattle.channel.specs.Ending.{moved_by, unended, after_unit}
-use Rattle.step_bus.specs.declared.Chain.TheVariants.{NoChain}
-use Rattle.step_bus.specs.declared.Bus.TheVariants.{Free}
-use Rattle.step_bus.specs.declared.Served.TheVariants.{Nobody}
 use Rattle.step.specs.declared.Controller.{Controller}
-use Rattle.step.specs.Answers.{unit, channel_number, paper}
+use Rattle.port.specs.Ports.{channel_number}
+use Rattle.step.specs.Answers.{unit, paper}
 use Rattle.step.specs.Controller.{at, with}
 use Rattle.step.specs.Choice.{turn, choice}
 use Rattle.step_rules.specs.Rules.{intent_of, choice_of}
@@ -60,7 +59,7 @@ abbrev pub searching : ℕ → ℕ → ℕ → Channel
 searching upper high low = working (record { a = record { upper = upper; lower = 0 }; b = no_register; count = 5 }) high low
 
 abbrev pub controller : Channel → Channel → Controller
-controller one two = record { pointer = 0; master = 1; control = record { chain = NoChain; bus = Free; note = false; served = Nobody }; one = one; two = two }
+controller one two = record { pointer = 0; master = 1; control = record { chain = None; bus = None; note = false; served = None }; one = one; two = two }
 
 -- all that the promise asks holds; the third unit, which is call i, ends the search by MC alone and leaves a count of 2
 abbrev pub EndsThird : Search → ℕ → Moment → Type 0

@@ -1,11 +1,11 @@
 -- What the next call of a stretch does to a channel and to the spaces, by whether it is a unit of that channel. For either channel.
 -- Assumes nothing.
 use mathlib.Core.Path.{◌≡◌, refl, sym, ap, ◌∙◌, subst}
-use mathlib.Core.Bool.{Bool, true, false, cond, ◌&&◌, true≢false}
+use mathlib.Core.Bool.{Bool, true, false, ◌&&◌, true≢false}
 use mathlib.Core.List.{List, [], ◌∷◌}
 use Prim.Native.Nat.{ℕ}
-use lib.Dec.{eqb}
-use Rattle.facts.specs.Look.{look}
+use Rattle.refusal.specs.declared.Refusal.{Refusal}
+use Rattle.std.specs.Prelude.{Result, Ok, Err}
 use Rattle.space.specs.declared.Place.{Place}
 use Rattle.space.specs.Space.{Spaces, get, SameSize}
 use Rattle.space.specs.Bytes.{gets}
@@ -23,11 +23,10 @@ use Rattle.step.specs.declared.Controller.{Controller}
 use Rattle.step.specs.Controller.{at, with}
 use Rattle.step.specs.Step.{perform_of, step_of}
 use Rattle.call_pointer.specs.Pointer.{pointed}
-use Rattle.call_line.specs.declared.LineAnswer.TheVariants.{Refused}
 use Rattle.call_line.specs.Lines.{lined, lined_by, lined_at}
 use Rattle.promises.specs.Machine.{Machine, step, next_choice, channel, unit_reads, unit_writes}
 use Rattle.promises.specs.Calls.{StretchCall, steps, lines, points, reads_pointer, reads, line, call, Moment, next}
-use Rattle.port.specs.Ports.{other}
+use Rattle.port.specs.Ports.{other, channel_at}
 use Rattle.promises.specs.Own.{owns, spares, chain_of_machine, step_next, unit_next, Away}
 use Rattle.promises.proofs.Machine.{unit_spaces}
 use Rattle.promises.proofs.Own.{unfetched, LeftAlone, by, rest_of, others_keep}
@@ -40,7 +39,7 @@ step_by m = refl
 
 pub owns_unit : (w : Which) (c : Choice) → owns w c ≡ true → c ≡ chosen.Unit w
 owns_unit w chosen.Disabled e = absurd (true≢false (sym e))
-owns_unit w (chosen.Refused n) e = absurd (true≢false (sym e))
+owns_unit w (chosen.Refused r) e = absurd (true≢false (sym e))
 owns_unit w (chosen.Fetch v s) e = absurd (true≢false (sym e))
 owns_unit w chosen.GiveBack e = absurd (true≢false (sym e))
 owns_unit One (chosen.Unit One) e = refl
@@ -55,7 +54,7 @@ owns_unit w chosen.Idle e = absurd (true≢false (sym e))
 sizes_of : (c : Choice) (m : Machine) → SameSize (by c m).spaces m.spaces
 unfolding perform_of
 sizes_of chosen.Disabled m = size_refl m.spaces
-sizes_of (chosen.Refused n) m = size_refl m.spaces
+sizes_of (chosen.Refused r) m = size_refl m.spaces
 sizes_of (chosen.Fetch v s) m = size_refl m.spaces
 sizes_of chosen.GiveBack m = size_refl m.spaces
 sizes_of (chosen.Unit v) m =
@@ -95,19 +94,15 @@ lined_control Two active u = refl
 
 -- a line's level, or a refused one
 line_quiet : (n : ℕ) (active : Bool) (m : Machine) → Quiet m (call (line n active) m).after
-unfolding call lined_at look
-line_quiet n active m = go (eqb n 1) (eqb n 2)
+unfolding call lined_at
+line_quiet n active m = go (channel_at n)
   where
     taken : (v : Which) → Quiet m (record { controller = with v (lined active (at v m.controller)) m.controller; spaces = m.spaces })
     taken v = record { spaces = refl; control = lined_control v active m.controller; alone = lined_alone v active m.controller }
 
-    go : (a b : Bool) → Quiet m (record {
-      controller = (cond a (lined_by One active m.controller) (cond b (lined_by Two active m.controller) (record { state = m.controller; answer = Refused 10 }))).state;
-      spaces = m.spaces;
-    })
-    go true b = taken One
-    go false true = taken Two
-    go false false = as_it_was m
+    go : (r : Result Which Refusal) → Quiet m (record { controller = (lined_by r active m.controller).state; spaces = m.spaces })
+    go (Ok v) = taken v
+    go (Err r) = as_it_was m
 
 -- ---- the next call is a step or such a call
 

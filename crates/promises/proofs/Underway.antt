@@ -28,7 +28,8 @@ use Rattle.step_bus.specs.declared.Control.{Control}
 use Rattle.step_rules.specs.declared.Choice.{Choice}
 use Rattle.step_rules.specs.declared.Choice.TheVariants as chosen
 use Rattle.step_rules.specs.Rules.{is_interleaved}
-use Rattle.step.specs.Answers.{unit, channel_number, paper}
+use Rattle.port.specs.Ports.{channel_number}
+use Rattle.step.specs.Answers.{unit, paper}
 use Rattle.step.specs.Controller.{at, with}
 use Rattle.step.specs.Step.{unit_of, perform_of, step_of}
 use Rattle.step_bus.specs.After.{control_by}

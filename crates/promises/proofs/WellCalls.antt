@@ -3,35 +3,31 @@ use mathlib.Core.Path.{◌≡◌, refl, sym, subst}
 use mathlib.Core.Bool.{Bool, true, false, cond, ◌&&◌}
 use Prim.Native.Nat.{ℕ, ◌%◌}
 use native.Mathlib.Omega.{arith}
-use lib.Dec.{eqb}
-use Rattle.facts.specs.Look.{look}
+use Rattle.refusal.specs.declared.Refusal.{Refusal}
+use Rattle.refusal.specs.declared.Refusal.TheVariants.{OtherChannelsIp, CannotChain}
+use Rattle.std.specs.Prelude.{None, Option, Some, Result, Ok, Err}
 use Rattle.port.specs.declared.Which.{Which}
 use Rattle.port.specs.declared.Which.TheVariants.{One, Two}
 use Rattle.port_write.specs.declared.WritePort.{WritePort}
 use Rattle.port_write.specs.declared.WritePort.TheVariants as port
 use Rattle.port_write.specs.Writable.{write_port}
 use Rattle.word_command.specs.declared.Command.{Command}
-use Rattle.word_command.specs.declared.Command.TheVariants.{Reset, Interrupts, SoftwareRequest, Flip, HardwareMask, StartChain, Unknown}
+use Rattle.word_command.specs.declared.Command.TheVariants.{Reset, Interrupts, SoftwareRequest, Flip, HardwareMask, StartChain}
 use Rattle.word_command.specs.Command.{command_of}
 use Rattle.word_mode.specs.Mode.{with_request, with_mask, with_flip}
 use Rattle.channel.specs.declared.Channel.{Channel}
 use Rattle.channel.specs.Set.{◌⟨mode≔◌⟩}
 use Rattle.word_reload.specs.declared.Stage.{Stage}
-use Rattle.step_bus.specs.declared.Chain.{Chain}
-use Rattle.step_bus.specs.declared.Chain.TheVariants.{NoChain, Of}
-use Rattle.step_bus.specs.declared.Bus.{Bus}
-use Rattle.step_bus.specs.declared.Bus.TheVariants.{Free, Kept}
 use Rattle.step_bus.specs.declared.Control.{Control}
 use Rattle.step.specs.declared.Controller.{Controller}
 use Rattle.step.specs.Controller.{at, with}
 use Rattle.step.specs.Set.{◌⟨control≔◌⟩, ◌⟨master≔◌⟩}
 use Rattle.step_rules.specs.Rules.{is_enabled}
 use Rattle.channel_command.specs.Effects.{cie_by, ip_by, chain_started, cannot_chain}
-use Rattle.call_command.specs.Commands.{refuses, takes, unless_busy, busy_by, is_busy, carried_out, commanded_by, commanded}
+use Rattle.call_command.specs.Commands.{refuses, takes, unless_busy, busy_by, is_busy, carried_out, commanded_by, commanded, obeyed}
 use Rattle.call_write.specs.Writing.{write_by, write_of}
 use Rattle.call_pointer.specs.Pointer.{pointed}
-use Rattle.port.specs.Ports.{is_other}
-use Rattle.call_line.specs.declared.LineAnswer.TheVariants.{Refused}
+use Rattle.port.specs.Ports.{is_other, channel_at}
 use Rattle.call_reset.specs.Reset.{reset_of}
 use Rattle.call_line.specs.Lines.{lined, lined_by, lined_at}
 use Rattle.call_acknowledge.specs.Acknowledge.{acknowledged, acknowledged_at, acknowledge_by, acknowledge_of, interrupts}
@@ -68,11 +64,11 @@ module _ (c d : Which → Channel) (s : (w : Which) → Clear (c w) → Stays (c
   owner_stays : (w : Which) → Owner note on (c w) → Owner note on (d w)
   owner_stays w o = record { no_note = o.no_note; enabled = o.enabled; clear = (s w o.clear).clear }
 
-  owned_stays : (chain : Chain) (bus : Bus) → Owned chain bus note on c → Owned chain bus note on d
-  owned_stays NoChain Free o = o
-  owned_stays NoChain (Kept w) o = record { owner = owner_stays w o.owner; software = subst Software (s w o.owner.clear).mode o.software }
-  owned_stays (Of w s) Free o = owner_stays w o
-  owned_stays (Of w s) (Kept v) o = o
+  owned_stays : (chain : Option (Which × Stage)) (bus : Option Which) → Owned chain bus note on c → Owned chain bus note on d
+  owned_stays None None o = o
+  owned_stays None (Some w) o = record { owner = owner_stays w o.owner; software = subst Software (s w o.owner.clear).mode o.software }
+  owned_stays (Some (w, s)) None o = owner_stays w o
+  owned_stays (Some (w, s)) (Some v) o = o
 
 pub controlled : (k : Control) (u : Controller) → WellFormed u → TidyHalf k.chain → Owned k.chain k.bus k.note (is_enabled u.master) (λ v. at v u)
     → WellFormed (u ⟨control≔ k ⟩)
@@ -105,22 +101,22 @@ replaced w c u h s f =
 
 -- who owns the bus, by what is known of the chain and the bus
 module _ (note on : Bool) (c : Which → Channel) where
-  pub free_owned : (bus : Bus) → bus ≡ Free → Owned NoChain bus note on c
-  free_owned bus e = subst (λ (b : Bus). Owned NoChain b note on c) (sym e) tt
+  pub free_owned : (bus : Option Which) → bus ≡ None → Owned None bus note on c
+  free_owned bus e = subst (λ (b : Option Which). Owned None b note on c) (sym e) tt
 
-  pub loose_owned : (chain : Chain) → chain ≡ NoChain → Owned chain Free note on c
-  loose_owned chain e = subst (λ (x : Chain). Owned x Free note on c) (sym e) tt
+  pub loose_owned : (chain : Option (Which × Stage)) → chain ≡ None → Owned chain None note on c
+  loose_owned chain e = subst (λ (x : Option (Which × Stage)). Owned x None note on c) (sym e) tt
 
-  pub chain_owned : (bus : Bus) (w : Which) (s : Stage) → bus ≡ Free → Owner note on (c w) → Owned (Of w s) bus note on c
-  chain_owned bus w s e o = subst (λ (b : Bus). Owned (Of w s) b note on c) (sym e) o
+  pub chain_owned : (bus : Option Which) (w : Which) (s : Stage) → bus ≡ None → Owner note on (c w) → Owned (Some (w, s)) bus note on c
+  chain_owned bus w s e o = subst (λ (b : Option Which). Owned (Some (w, s)) b note on c) (sym e) o
 
-  pub kept_owned : (chain : Chain) (w : Which) → chain ≡ NoChain → Keeper note on (c w) → Owned chain (Kept w) note on c
-  kept_owned chain w e o = subst (λ (x : Chain). Owned x (Kept w) note on c) (sym e) o
+  pub kept_owned : (chain : Option (Which × Stage)) (w : Which) → chain ≡ None → Keeper note on (c w) → Owned chain (Some w) note on c
+  kept_owned chain w e o = subst (λ (x : Option (Which × Stage)). Owned x (Some w) note on c) (sym e) o
 
-  idle_owned : (bus : Bus) (chain : Chain) → busy_by bus chain ≡ false → Owned chain bus note on c
-  idle_owned Free NoChain e = tt
-  idle_owned Free (Of w s) e = no e refl
-  idle_owned (Kept w) chain e = no e refl
+  idle_owned : (bus : Option Which) (chain : Option (Which × Stage)) → busy_by bus chain ≡ false → Owned chain bus note on c
+  idle_owned None None e = tt
+  idle_owned None (Some (w, s)) e = no e refl
+  idle_owned (Some w) chain e = no e refl
 
 -- ---- register writes: without Reset nobody owns the bus
 
@@ -163,47 +159,50 @@ module _ (u : Controller) (h : WellFormed u) where
     }
 
 -- 3, 4 and 5 change nothing
-unrefused : (b : Bool) (n : ℕ) (u v : Controller) → WellFormed u → (b ≡ false → WellFormed v) → WellFormed (cond b (refuses n u) (takes v)).state
-unrefused true n u v h f = h
-unrefused false n u v h f = f refl
+unrefused : (b : Bool) (r : Refusal) (u v : Controller) → WellFormed u → (b ≡ false → WellFormed v) → WellFormed (cond b (refuses r u) (takes v)).state
+unrefused true r u v h f = h
+unrefused false r u v h f = f refl
 
 module _ (u : Controller) (h : WellFormed u) where
   carried_well : (x : Command) (w : Which) → is_busy u ≡ false → WellFormed (carried_out x w u).state
   carried_well Reset w i = reset_well u h
   carried_well (Interrupts k set e p) w i =
-      unrefused (p && is_other w k) 4 u (with k (ip_by p set k (cie_by e set (at k u))) u) h
+      unrefused (p && is_other w k) OtherChannelsIp u (with k (ip_by p set k (cie_by e set (at k u))) u) h
       (λ q. stored u h i k (ip_by p set k (cie_by e set (at k u))) (interrupts_sound p e set k (at k u) (sound_at k u h)))
   carried_well (SoftwareRequest k set) w i = stored u h i k (at k u ⟨mode≔ with_request set (at k u).mode ⟩) (requested_sound set (at k u) (sound_at k u h))
   carried_well (Flip k set) w i = stored u h i k (at k u ⟨mode≔ with_flip set (at k u).mode ⟩) (flipped_sound set (at k u) (sound_at k u h))
   carried_well (HardwareMask k set) w i = stored u h i k (at k u ⟨mode≔ with_mask set (at k u).mode ⟩) (masked_sound set (at k u) (sound_at k u h))
   carried_well (StartChain k) w i =
-      unrefused (cannot_chain (at k u)) 5 u (with k (chain_started (at k u)) u) h
+      unrefused (cannot_chain (at k u)) CannotChain u (with k (chain_started (at k u)) u) h
       (λ q. stored u h i k (chain_started (at k u)) (started_sound (at k u) q (sound_at k u h)))
-  carried_well Unknown w i = h
 
-  plain_well : (busy : Bool) (x : Command) (w : Which) → is_busy u ≡ busy → WellFormed (commanded_by false busy x w u).state
+  obeyed_well : (x : Option Command) (w : Which) → is_busy u ≡ false → WellFormed (obeyed x w u).state
+  obeyed_well None w i = h
+  obeyed_well (Some x) w i = carried_well x w i
+
+  plain_well : (busy : Bool) (x : Option Command) (w : Which) → is_busy u ≡ busy → WellFormed (commanded_by false busy x w u).state
   plain_well true x w i = h
-  plain_well false x w i = carried_well x w i
+  plain_well false x w i = obeyed_well x w i
 
-  commanded_well : (x : Command) (w : Which) → WellFormed (commanded x w u).state
+  commanded_well : (x : Option Command) (w : Which) → WellFormed (commanded x w u).state
   unfolding commanded
-  commanded_well Reset w = reset_well u h
-  commanded_well (Interrupts k set e p) w = plain_well (is_busy u) (Interrupts k set e p) w refl
-  commanded_well (SoftwareRequest k set) w = plain_well (is_busy u) (SoftwareRequest k set) w refl
-  commanded_well (Flip k set) w = plain_well (is_busy u) (Flip k set) w refl
-  commanded_well (HardwareMask k set) w = plain_well (is_busy u) (HardwareMask k set) w refl
-  commanded_well (StartChain k) w = plain_well (is_busy u) (StartChain k) w refl
-  commanded_well Unknown w = plain_well (is_busy u) Unknown w refl
+  commanded_well (Some Reset) w = reset_well u h
+  commanded_well (Some (Interrupts k set e p)) w = plain_well (is_busy u) (Some (Interrupts k set e p)) w refl
+  commanded_well (Some (SoftwareRequest k set)) w = plain_well (is_busy u) (Some (SoftwareRequest k set)) w refl
+  commanded_well (Some (Flip k set)) w = plain_well (is_busy u) (Some (Flip k set)) w refl
+  commanded_well (Some (HardwareMask k set)) w = plain_well (is_busy u) (Some (HardwareMask k set)) w refl
+  commanded_well (Some (StartChain k)) w = plain_well (is_busy u) (Some (StartChain k)) w refl
+  commanded_well None w = plain_well (is_busy u) None w refl
 
   unless_well : (busy : Bool) (v : Controller) → is_busy u ≡ busy → (is_busy u ≡ false → WellFormed v) → WellFormed (unless_busy busy u (takes v)).state
   unless_well true v i f = h
   unless_well false v i f = f i
 
-  write_by_lem : (p : WritePort) (w : ℕ) → WellFormed (write_by p w u).state
-  write_by_lem port.MasterMode w = unless_well (is_busy u) _ refl (λ i. mastered u h i w)
-  write_by_lem (port.Command k) w = commanded_well (command_of w) k
-  write_by_lem (port.Of k r) w = unless_well (is_busy u) _ refl (λ i. stored u h i k _ (written_sound r w (at k u) (sound_at k u h)))
-  write_by_lem port.Nowhere w = h
+  write_by_lem : (p : Option WritePort) (w : ℕ) → WellFormed (write_by p w u).state
+  write_by_lem (Some port.MasterMode) w = unless_well (is_busy u) _ refl (λ i. mastered u h i w)
+  write_by_lem (Some (port.Command k)) w = commanded_well (command_of w) k
+  write_by_lem (Some (port.Of k r)) w = unless_well (is_busy u) _ refl (λ i. stored u h i k _ (written_sound r w (at k u) (sound_at k u h)))
+  write_by_lem None w = h
 
   pub write_well : (w : ℕ) → WellFormed (write_of w u).state
   unfolding write_of
@@ -216,13 +215,12 @@ module _ (u : Controller) (h : WellFormed u) where
   lined_well w active = replaced w (lined active (at w u)) u h (lined_sound active (at w u) (sound_at w u h)) (λ e. record { clear = e; mode = refl })
 
   pub line_well : (n : ℕ) (active : Bool) → WellFormed (lined_at n active u).state
-  unfolding lined_at look
-  line_well n active = go (eqb n 1) (eqb n 2)
+  unfolding lined_at
+  line_well n active = go (channel_at n)
     where
-      go : (a b : Bool) → WellFormed (cond a (lined_by One active u) (cond b (lined_by Two active u) (record { state = u; answer = Refused 10 }))).state
-      go true b = lined_well One active
-      go false true = lined_well Two active
-      go false false = h
+      go : (r : Result Which Refusal) → WellFormed (lined_by r active u).state
+      go (Ok w) = lined_well w active
+      go (Err r) = h
 
   -- only a channel with SIP changes, and it owns no bus
   acknowledged_well : (w : Which) → WellFormed (acknowledged_at w u).state

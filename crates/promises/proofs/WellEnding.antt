@@ -4,6 +4,7 @@ use mathlib.Core.Path.{◌≡◌, refl, ap, ◌∙◌}
 use mathlib.Core.Bool.{Bool, true, false, not, cond, ◌&&◌, ◌||◌}
 use Prim.Native.Nat.{ℕ, ◌%◌}
 use lib.Dec.{eqb}
+use Rattle.std.specs.Prelude.{None, Option, Some}
 use Rattle.space.specs.declared.Width.{Width}
 use Rattle.space.specs.declared.Width.TheVariants.{Byte, Word}
 use Rattle.space.specs.Space.{Spaces}
@@ -35,8 +36,6 @@ use Rattle.channel.specs.Ending.{saved, with_ip, flagged, interrupted_by, interr
 use Rattle.word_reload.specs.declared.Progress.{Progress}
 use Rattle.word_reload.specs.declared.Stage.{Stage}
 use Rattle.word_reload.specs.declared.Stage.TheVariants.{Reload, Entries}
-use Rattle.word_reload.specs.declared.Next.{Next}
-use Rattle.word_reload.specs.declared.Next.TheVariants.{More, Complete}
 use Rattle.chain.specs.declared.Loaded.{Loaded}
 use Rattle.chain.specs.Chaining.{advanced, goes_on, next_of, is_chain_address, load_reload, load_first_by, load_last_by, load_entry_by, load_entry, load_of, settled_by, fetched_of, dropped_of}
 use Rattle.step.specs.Step.{work_of}
@@ -185,13 +184,13 @@ unended_clear DemandInterleave c h = h
 
 -- ---- a chain's fetch
 
-abbrev pub TidyNext : Next → Type 0
-TidyNext (More p) = kept_chain p.upper ≡ p.upper
-TidyNext Complete = Unit {0}
+abbrev pub TidyNext : Option Progress → Type 0
+TidyNext (Some p) = kept_chain p.upper ≡ p.upper
+TidyNext None = Unit {0}
 
-abbrev pub Finished : Next → Type 0
-Finished (More p) = ⊥
-Finished Complete = Unit {0}
+abbrev pub Finished : Option Progress → Type 0
+Finished (Some p) = ⊥
+Finished None = Unit {0}
 
 record LoadedWell (l : Loaded) : Type 0 where
   tidy : Tidy l.channel
@@ -257,9 +256,9 @@ by_software m l e q s = go (is_requested m) (not (is_masked m)) (arrived (reques
     go false true d f p = no f p
     go false false d f p = p
 
-settled_well : (x : Next) (c : Channel) (k : Bool) → LoadedWell (record { channel = c; next = x; upper = k }) → FetchedWell (record { channel = settled_by x c; next = x; upper = k })
-settled_well (More p) c k h = record { tidy = h.tidy; clear = h.clear; half = h.half; software = λ f. absurd f }
-settled_well Complete c k h = record { tidy = h.tidy; clear = h.clear; half = tt; software = λ f q. by_software c.mode (c.line ⟨change≔ false ⟩) refl q }
+settled_well : (x : Option Progress) (c : Channel) (k : Bool) → LoadedWell (record { channel = c; next = x; upper = k }) → FetchedWell (record { channel = settled_by x c; next = x; upper = k })
+settled_well (Some p) c k h = record { tidy = h.tidy; clear = h.clear; half = h.half; software = λ f. absurd f }
+settled_well None c k h = record { tidy = h.tidy; clear = h.clear; half = tt; software = λ f q. by_software c.mode (c.line ⟨change≔ false ⟩) refl q }
 
 pub fetched_well : (s : Stage) (w : ℕ) (c : Channel) → TidyStage s → Tidy c → Clear (c ⟨pending≔ false ⟩) → FetchedWell (fetched_of s w c)
 unfolding fetched_of

@@ -5,6 +5,8 @@ use mathlib.Core.List.{List}
 use mathlib.Core.Logic.{◌⊎◌, inl, inr}
 use Prim.Native.Nat.{ℕ, zero, suc}
 use lib.Dec.{ltb}
+use Rattle.refusal.specs.declared.Refusal.TheVariants.{LongRun}
+use Rattle.std.specs.Prelude.{None, Option, Some}
 use Rattle.space.specs.declared.Width.TheVariants.{Word}
 use Rattle.space.specs.Space.{Spaces, value_in}
 use Rattle.port.specs.declared.Which.{Which}
@@ -26,16 +28,7 @@ use Rattle.channel_request.proofs.Candidate.{Ready, candidate_exactly}
 use Rattle.channel.specs.Ending.{end_of, moved_by, unended_by, unended, reasons_of, after_by, after_unit}
 use Rattle.word_reload.specs.declared.Stage.{Stage}
 use Rattle.word_reload.specs.declared.Stage.TheVariants.{Entries}
-use Rattle.word_reload.specs.declared.Next.{Next}
-use Rattle.word_reload.specs.declared.Next.TheVariants.{More, Complete}
 use Rattle.chain.specs.Chaining.{fetched_of, dropped_of}
-use Rattle.step_bus.specs.declared.Chain.{Chain}
-use Rattle.step_bus.specs.declared.Chain.TheVariants.{NoChain, Of}
-use Rattle.step_bus.specs.declared.Bus.{Bus}
-use Rattle.step_bus.specs.declared.Bus.TheVariants.{Free, Kept}
-use Rattle.step_bus.specs.declared.Served.{Served}
-use Rattle.step_bus.specs.declared.Served.TheVariants as served
-use Rattle.step_rules.specs.declared.Turn.TheVariants.{Whose}
 use Rattle.step_bus.specs.declared.Control.{Control}
 use Rattle.step.specs.declared.Controller.{Controller}
 use Rattle.step_rules.specs.declared.Choice.{Choice}
@@ -60,28 +53,29 @@ use Rattle.promises.specs.WellFormed.{Tidy, TidyStage, ClearFlags, Clear, Softwa
 use Rattle.promises.proofs.WellChannel.{no, clear_settled}
 use Rattle.promises.proofs.WellEnding.{EndedWell, ended_well, moved_tidy, moved_clear, unended_tidy, unended_clear, TidyNext, Finished, fetched_well, dropped_sound}
 use Rattle.promises.proofs.WellCalls.{sound_at, at_with, placed, controlled, free_owned, loose_owned, chain_owned, kept_owned}
+use Rattle.word_reload.specs.declared.Progress.{Progress}
 
 -- ---- what the next step's choice presumes
 
 -- a fetch: the bus is free, and the channel is clear but for the chain pending, which the fetch takes
-record Fetching (s : Stage) (bus : Bus) (note on : Bool) (c : Channel) : Type 0 where
-  free : bus ≡ Free
+record Fetching (s : Stage) (bus : Option Which) (note on : Bool) (c : Channel) : Type 0 where
+  free : bus ≡ None
   owner : Owner note on (c ⟨pending≔ false ⟩)
   stage : TidyStage s
 
 -- a unit, or holding: no chain is under way
-record Working (chain : Chain) (note on : Bool) (c : Channel) : Type 0 where
-  no_chain : chain ≡ NoChain
+record Working (chain : Option (Which × Stage)) (note on : Bool) (c : Channel) : Type 0 where
+  no_chain : chain ≡ None
   owner : Owner note on c
 
 abbrev Meant : Choice → Controller → Type 0
 Meant chosen.Disabled u = Unit {0}
-Meant (chosen.Refused n) u = Unit {0}
+Meant (chosen.Refused r) u = Unit {0}
 Meant (chosen.Fetch w s) u = Fetching s u.control.bus u.control.note (is_enabled u.master) (at w u)
-Meant chosen.GiveBack u = (u.control.chain ≡ NoChain) × (u.control.bus ≡ Free)
+Meant chosen.GiveBack u = (u.control.chain ≡ None) × (u.control.bus ≡ None)
 Meant (chosen.Unit w) u = Working u.control.chain u.control.note (is_enabled u.master) (at w u)
 Meant (chosen.Hold w) u = Working u.control.chain u.control.note (is_enabled u.master) (at w u)
-Meant chosen.Release u = u.control.chain ≡ NoChain
+Meant chosen.Release u = u.control.chain ≡ None
 Meant chosen.Idle u = Unit {0}
 
 unpending : {sip ca nac pending : Bool} → ClearFlags sip ca nac pending → ClearFlags sip ca nac false
@@ -96,24 +90,24 @@ able p r n s a e q = go ((candidate_exactly p r n s a).0 e)
     go (inr k) = record { no_sip = k.no_sip; no_ca = k.no_ca; no_nac = k.no_nac; no_pending = q }
 
 module _ (u : Controller) (h : WellFormed u) where
-  abbrev Owns : Chain → Bus → Type 0
+  abbrev Owns : Option (Which × Stage) → Option Which → Type 0
   Owns chain bus = Owned chain bus u.control.note (is_enabled u.master) (λ v. at v u)
 
-  owns : {chain : Chain} → u.control.chain ≡ chain → Owns chain u.control.bus
-  owns c = subst (λ (x : Chain). Owns x u.control.bus) c h.owned
+  owns : {chain : (Option (Which × Stage))} → u.control.chain ≡ chain → Owns chain u.control.bus
+  owns c = subst (λ (x : Option (Which × Stage)). Owns x u.control.bus) c h.owned
 
-  under_way : (w : Which) (s : Stage) (bus : Bus) → Owns (Of w s) bus → TidyStage s → Fetching s bus u.control.note (is_enabled u.master) (at w u)
-  under_way w s Free o t = record { free = refl; owner = record { no_note = o.no_note; enabled = o.enabled; clear = unpending o.clear }; stage = t }
-  under_way w s (Kept v) o t = absurd o
+  under_way : (w : Which) (s : Stage) (bus : Option Which) → Owns (Some (w, s)) bus → TidyStage s → Fetching s bus u.control.note (is_enabled u.master) (at w u)
+  under_way w s None o t = record { free = refl; owner = record { no_note = o.no_note; enabled = o.enabled; clear = unpending o.clear }; stage = t }
+  under_way w s (Some v) o t = absurd o
 
-  noted_free : (bus : Bus) → Owns NoChain bus → u.control.note ≡ true → bus ≡ Free
-  noted_free Free o n = refl
-  noted_free (Kept w) o n = absurd (true≢false (sym n ∙ o.owner.no_note))
+  noted_free : (bus : Option Which) → Owns None bus → u.control.note ≡ true → bus ≡ None
+  noted_free None o n = refl
+  noted_free (Some w) o n = absurd (true≢false (sym n ∙ o.owner.no_note))
 
   working : (a : Bool) (w : Which) → Keeps a w (facts_of u) → Working u.control.chain u.control.note (is_enabled u.master) (at w u)
-  working a w k = record { no_chain = k.calm.chain; owner = (subst (Owns NoChain) k.bus (owns k.calm.chain)).owner }
+  working a w k = record { no_chain = k.calm.chain; owner = (subst (Owns None) k.bus (owns k.calm.chain)).owner }
 
-  in_turn : (w : Which) (c : Channel) → Turns (Whose w) (facts_of u) → Clear c → Owner u.control.note (is_enabled u.master) c
+  in_turn : (w : Which) (c : Channel) → Turns (Some w) (facts_of u) → Clear c → Owner u.control.note (is_enabled u.master) c
   in_turn w c t e = record { no_note = t.calm.note; enabled = t.calm.enabled; clear = e }
 
   meant : (b : Board) {c : Choice} → Chosen b u c → Meant c u
@@ -167,27 +161,27 @@ module _ (u : Controller) (h : WellFormed u) where
   keeping w c k o = at_with (Keeper note on) w c (u ⟨control≔ k ⟩) o
 
   module _ (w : Which) (s : Stage) (f : Fetching s u.control.bus note on (at w u)) where
-    fetched_half : (x : Next) (cpu act : Bool) → TidyNext x → TidyHalf (control_fetched x cpu act w u.control).chain
-    fetched_half (More p) cpu act t = t
-    fetched_half Complete true act t = tt
-    fetched_half Complete false true t = tt
-    fetched_half Complete false false t = tt
+    fetched_half : (x : Option Progress) (cpu act : Bool) → TidyNext x → TidyHalf (control_fetched x cpu act w u.control).chain
+    fetched_half (Some p) cpu act t = t
+    fetched_half None true act t = tt
+    fetched_half None false true t = tt
+    fetched_half None false false t = tt
 
-    fetched_owned : (x : Next) (cpu act : Bool) (c : Channel) (k : Control) → Clear c → (Finished x → act ≡ true → Software c.mode)
+    fetched_owned : (x : Option Progress) (cpu act : Bool) (c : Channel) (k : Control) → Clear c → (Finished x → act ≡ true → Software c.mode)
         → let j = control_fetched x cpu act w u.control in Owned j.chain j.bus j.note on (λ v. at v (put w c k))
-    fetched_owned (More p) cpu act c k e g =
+    fetched_owned (Some p) cpu act c k e g =
         chain_owned note on (λ v. at v (put w c k)) u.control.bus w (Entries p) f.free
         (owner w c k (record { no_note = f.owner.no_note; enabled = f.owner.enabled; clear = e }))
-    fetched_owned Complete true act c k e g = free_owned true on (λ v. at v (put w c k)) u.control.bus f.free
-    fetched_owned Complete false true c k e g =
+    fetched_owned None true act c k e g = free_owned true on (λ v. at v (put w c k)) u.control.bus f.free
+    fetched_owned None false true c k e g =
         keeping w c k (record { owner = record { no_note = f.owner.no_note; enabled = f.owner.enabled; clear = e }; software = g tt refl })
-    fetched_owned Complete false false c k e g = free_owned note on (λ v. at v (put w c k)) u.control.bus f.free
+    fetched_owned None false false c k e g = free_owned note on (λ v. at v (put w c k)) u.control.bus f.free
 
     fetch_well : (eop : Bool) (m : List ℕ) → WellFormed (fetch_of w s eop u m).state
     unfolding fetch_of drop_of
     fetch_well true m =
         let c = dropped_of (at w u) in
-        let k = u.control ⟨chain≔ NoChain ⟩ in
+        let k = u.control ⟨chain≔ None ⟩ in
         placed w c k u h (dropped_sound (at w u) (sound_at w u h).0 f.owner.clear.no_sip) tt
         (free_owned note on (λ v. at v (put w c k)) u.control.bus f.free)
     fetch_well false m =
@@ -201,18 +195,18 @@ module _ (u : Controller) (h : WellFormed u) where
 
   module _ (w : Which) (f : Working u.control.chain note on (at w u)) where
     -- an end: the bus is free, or a chain is put under way
-    end_well : (e : Ended) (s : Served) → EndedWell e
-        → WellFormed (put w e.channel (record { chain = chain_after e.chains w u.control.chain; bus = Free; note = note; served = s }))
+    end_well : (e : Ended) (s : Option Which) → EndedWell e
+        → WellFormed (put w e.channel (record { chain = chain_after e.chains w u.control.chain; bus = None; note = note; served = s }))
     end_well e s x = placed w e.channel k u h x.sound (after e.chains) (owned e.chains refl)
       where
         k : Control
-        k = record { chain = chain_after e.chains w u.control.chain; bus = Free; note = note; served = s }
+        k = record { chain = chain_after e.chains w u.control.chain; bus = None; note = note; served = s }
 
         after : (b : Bool) → TidyHalf (chain_after b w u.control.chain)
         after true = tt
         after false = h.half
 
-        owned : (b : Bool) → e.chains ≡ b → Owned (chain_after b w u.control.chain) Free note on (λ v. at v (put w e.channel k))
+        owned : (b : Bool) → e.chains ≡ b → Owned (chain_after b w u.control.chain) None note on (λ v. at v (put w e.channel k))
         owned true q = owner w e.channel k (record { no_note = f.owner.no_note; enabled = f.owner.enabled; clear = x.clear q })
         owned false q = loose_owned note on (λ v. at v (put w e.channel k)) u.control.chain f.no_chain
 
@@ -250,7 +244,7 @@ module _ (u : Controller) (h : WellFormed u) where
         → let e = after_by b w why (moved_by m (at w u)) in WellFormed (put w e.channel (control_by b (request_mode_of (at w u).mode) cpu e.chains w u.control))
     unfolding unended moved_by
     after_well true cpu why m t =
-        end_well (end_of w why (moved_by m (at w u))) (served.Last w) (ended_well w why (moved_by m (at w u)) t (moved_clear m (at w u) f.owner.clear))
+        end_well (end_of w why (moved_by m (at w u))) (Some w) (ended_well w why (moved_by m (at w u)) t (moved_clear m (at w u) f.owner.clear))
     after_well false cpu why m t = unended_well (request_mode_of (at w u).mode) cpu (moved_by m (at w u)) t (moved_clear m (at w u) f.owner.clear) refl
 
     unit_well : (eop : Bool) (z : Spaces) → WellFormed (unit_of w eop u (worked (work_of (at w u)) z).moved).state
@@ -268,16 +262,16 @@ module _ (u : Controller) (h : WellFormed u) where
       → WellFormed (perform_of x eop u z).stepped.state
   unfolding perform_of
   performed_well chosen.Disabled eop z f = h
-  performed_well (chosen.Refused n) eop z f = h
+  performed_well (chosen.Refused r) eop z f = h
   performed_well (chosen.Fetch w s) eop z f = fetch_well w s f eop z.memory
   performed_well chosen.GiveBack eop z f =
       controlled (u.control ⟨note≔ false ⟩) u h h.half
-      (subst (λ (x : Chain). Owned x u.control.bus false on (λ v. at v u)) (sym f.0)
+      (subst (λ (x : Option (Which × Stage)). Owned x u.control.bus false on (λ v. at v u)) (sym f.0)
       (free_owned false on (λ v. at v u) u.control.bus f.1))
   performed_well (chosen.Unit w) eop z f = unit_well w f eop z
   performed_well (chosen.Hold w) eop z f = hold_well w f eop
   performed_well chosen.Release eop z f =
-      controlled (u.control ⟨bus≔ Free ⟩) u h h.half
+      controlled (u.control ⟨bus≔ None ⟩) u h h.half
       (loose_owned note on (λ v. at v u) u.control.chain f)
   performed_well chosen.Idle eop z f = h
 
@@ -301,6 +295,6 @@ pub run_well : (budget : ℕ) (u : Controller) (z : Spaces) → WellFormed u →
 unfolding run_of
 run_well budget u z h = go (ltb 65536 budget)
   where
-    go : (b : Bool) → WellFormed (cond b (record { last = outcome (says u (answer.Refused 11)) z; steps = 0 }) (run_from budget 0 (outcome (says u answer.Idle) z))).last.stepped.state
+    go : (b : Bool) → WellFormed (cond b (record { last = outcome (says u (answer.Refused LongRun)) z; steps = 0 }) (run_from budget 0 (outcome (says u answer.Idle) z))).last.stepped.state
     go true = h
     go false = run_from_lem budget 0 (outcome (says u answer.Idle) z) h

@@ -1,5 +1,5 @@
 -- The calls of document 01 and of the requests, and what each leaves and answers, by the definitions that the contracts cite. Assumes nothing.
-use Rattle.std.specs.Prelude.{ℕ, Bool, false, List, [], ◌∷◌}
+use Rattle.std.specs.Prelude.{ℕ, Bool, false, List, [], ◌∷◌, Result, ⊤}
 use Rattle.word_mode.specs.declared.Reasons.{Reasons}
 use Rattle.step.specs.Answers.{Paper, none, paper}
 use Rattle.step.specs.Step.{Outcome, RunOutcome, step_of}
@@ -7,13 +7,13 @@ use Rattle.call_reset.specs.Reset.{reset_of}
 use Rattle.call_pointer.specs.Pointer.{pointed}
 use Rattle.call_read.specs.Reading.{read_of}
 use Rattle.call_read.specs.Answers.{PaperRead, paper_read}
-use Rattle.call_command.specs.declared.Written.{Written}
 use Rattle.call_command.specs.Answers.{paper_write}
 use Rattle.call_write.specs.Writing.{write_of}
-use Rattle.call_line.specs.declared.Lined.{Lined}
 use Rattle.call_line.specs.Lines.{lined_at}
 use Rattle.call_line.specs.Answers.{paper_line}
-use Rattle.call_acknowledge.specs.declared.Acknowledged.{Acknowledged}
+use Rattle.step.specs.declared.Done.{Done}
+use Rattle.refusal.specs.declared.Refusal.{Refusal}
+use Rattle.call_acknowledge.specs.declared.Acknowledgement.{Acknowledgement}
 use Rattle.call_acknowledge.specs.Acknowledge.{acknowledge_of}
 use Rattle.call_acknowledge.specs.Answers.{PaperAck, paper_ack}
 use Rattle.call_run.specs.Run.{run_of}
@@ -71,13 +71,13 @@ pub record CallOutcome : Type 0 where
   pub told : Told
   pub after : Machine
 
-abbrev pub write_outcome : Machine → Written → CallOutcome
+abbrev pub write_outcome : Machine → Done (Result ⊤ Refusal) → CallOutcome
 write_outcome m r = record { told = only (paper_write r.answer) 0; after = record { controller = r.state; spaces = m.spaces } }
 
-abbrev pub line_outcome : Machine → Lined → CallOutcome
+abbrev pub line_outcome : Machine → Done (Result ⊤ Refusal) → CallOutcome
 line_outcome m r = record { told = only (paper_line r.answer) 0; after = record { controller = r.state; spaces = m.spaces } }
 
-abbrev pub ack_outcome : Machine → Acknowledged → CallOutcome
+abbrev pub ack_outcome : Machine → Done (Result Acknowledgement Refusal) → CallOutcome
 ack_outcome m r = record { told = ack_told (paper_ack r.answer); after = record { controller = r.state; spaces = m.spaces } }
 
 abbrev pub step_outcome : Outcome → CallOutcome

@@ -1,12 +1,12 @@
 -- Demand 1: any call is carried out or refused by a number from the list, exactly when the table says, in its order; a refused call leaves the
 -- controller and both lent spaces as they were, and every value that it answers is 0; a run keeps the steps before a refused one. Assumes nothing.
-use Rattle.std.specs.Prelude.{◌≡◌, Bool, true, not, ◌&&◌, ◌||◌, ◌≢◌, List, [], ◌∷◌, ℕ, ◌/◌, ◌%◌, eqb, leb, ltb}
+use Rattle.std.specs.Prelude.{◌≡◌, Bool, true, not, ◌&&◌, ◌||◌, ◌≢◌, List, [], ◌∷◌, ℕ, ◌/◌, ◌%◌, eqb, leb, ltb, Option, None, Some}
 use Rattle.facts.specs.Bits.{bit_at}
 use Rattle.word_command.specs.Command.{channel_of}
+use Rattle.refusal.specs.Refusals.{numbered}
 use Rattle.space.specs.Space.{Spaces}
 use Rattle.port.specs.declared.Which.{Which}
 use Rattle.port_read.specs.declared.ReadPort.{ReadPort}
-use Rattle.port_read.specs.declared.ReadPort.TheVariants as reads
 use Rattle.port_write.specs.declared.WritePort.{WritePort}
 use Rattle.port_write.specs.declared.WritePort.TheVariants as writes
 use Rattle.port_read.specs.Readable.{read_port}
@@ -27,13 +27,9 @@ use Rattle.promises.specs.Machine.{Machine, step}
 use Rattle.promises.specs.Calls.{Call, only, call}
 
 -- 1: no register at the pointer for this direction
-abbrev pub read_table : ReadPort → List (Bool × ℕ)
-read_table reads.MasterMode = []
-read_table (reads.Status w) = []
-read_table (reads.Save w) = []
-read_table (reads.ModeHigh w) = []
-read_table (reads.Of w r) = []
-read_table reads.Nowhere = (true, 1) ∷ []
+abbrev pub read_table : Option ReadPort → List (Bool × ℕ)
+read_table None = (true, 1) ∷ []
+read_table (Some p) = []
 
 -- bits 7-5 of a command give the kind
 abbrev pub kind_of : ℕ → ℕ
@@ -49,11 +45,11 @@ command_table k w u =
     ∷ (eqb (kind_of w) 5 && cannot_chain (at (channel_of w) u), 5)
     ∷ []
 
-abbrev pub write_table : WritePort → ℕ → Controller → List (Bool × ℕ)
-write_table writes.MasterMode w u = (is_busy u, 2) ∷ []
-write_table (writes.Command k) w u = command_table k w u
-write_table (writes.Of k r) w u = (is_busy u, 2) ∷ []
-write_table writes.Nowhere w u = (true, 1) ∷ []
+abbrev pub write_table : Option WritePort → ℕ → Controller → List (Bool × ℕ)
+write_table (Some writes.MasterMode) w u = (is_busy u, 2) ∷ []
+write_table (Some (writes.Command k)) w u = command_table k w u
+write_table (Some (writes.Of k r)) w u = (is_busy u, 2) ∷ []
+write_table None w u = (true, 1) ∷ []
 
 -- 10: channel other than 1 or 2
 abbrev pub channel_table : ℕ → List (Bool × ℕ)
@@ -65,7 +61,7 @@ ack_table u = (not (interrupts u.one || interrupts u.two), 9) ∷ []
 
 -- 6 to 8, of what the rules intend
 abbrev pub step_table : Controller → Spaces → List (Bool × ℕ)
-step_table u z = refusals (intent_of (facts_of u)) (faults_of (board_of z) u)
+step_table u z = numbered (refusals (intent_of (facts_of u)) (faults_of (board_of z) u))
 
 -- the rows of a table, none of which holds unless b does
 abbrev pub provided : Bool → List (Bool × ℕ) → List (Bool × ℕ)

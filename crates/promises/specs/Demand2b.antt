@@ -19,7 +19,8 @@ use Rattle.word_operation.specs.Operation.{comparing}
 use Rattle.word_mode.specs.declared.Reasons.{Reasons}
 use Rattle.word_mode.specs.Mode.{is_flipped, match_control, reload_of}
 use Rattle.word_mode.specs.Reasons.{some, enabled_for}
-use Rattle.step.specs.Answers.{Paper, unit, none, channel_number, paper}
+use Rattle.port.specs.Ports.{channel_number}
+use Rattle.step.specs.Answers.{Paper, unit, none, paper}
 use Rattle.port.specs.declared.Which.{Which}
 use Rattle.promises.specs.Machine.{Machine, answer, channel}
 use Rattle.promises.specs.Calls.{Moment, next}

@@ -1,6 +1,6 @@
 -- Demand 3: two channels in Demand Interleave take turns, and where they keep apart the result is that of one after the other.
 -- Assumes nothing.
-use Rattle.std.specs.Prelude.{◌≡◌, ◌⊎◌, true, false, cond, ℕ, zero, suc, ◌≤◌, ◌<◌}
+use Rattle.std.specs.Prelude.{◌≡◌, ◌⊎◌, true, false, cond, ℕ, zero, suc, ◌≤◌, ◌<◌, None}
 use Rattle.space.specs.declared.Place.{Place}
 use Rattle.space.specs.Space.{Spaces, Inside}
 use Rattle.port.specs.declared.Which.{Which}
@@ -12,8 +12,6 @@ use Rattle.unit_laws.specs.Inter.{State}
 use Rattle.unit_laws.specs.Machine.{iter, Every}
 use Rattle.channel.specs.declared.Channel.{Channel}
 use Rattle.channel_request.specs.Request.{requests}
-use Rattle.step_bus.specs.declared.Chain.TheVariants.{NoChain}
-use Rattle.step_bus.specs.declared.Bus.TheVariants.{Free}
 use Rattle.step_bus.specs.declared.Back.TheVariants.{Note}
 use Rattle.step_rules.specs.declared.Choice.TheVariants as chosen
 use Rattle.step_rules.specs.Rules.{is_enabled}
@@ -35,8 +33,8 @@ pub record Interleaving (c : Channel) : Type 0 where
 -- Enabled, both channels so, no chain under way and no channel keeping the bus; there may be a note.
 pub record Start (m : Machine) : Type 0 where
   pub on : is_enabled m.controller.master ≡ true
-  pub chain : m.controller.control.chain ≡ NoChain
-  pub bus : m.controller.control.bus ≡ Free
+  pub chain : m.controller.control.chain ≡ None
+  pub bus : m.controller.control.bus ≡ None
   pub one : Interleaving m.controller.one
   pub two : Interleaving m.controller.two
 
@@ -77,8 +75,8 @@ Turned a = (a ≡ answers.GivenBack Note) ⊎ (((paper a).name ≡ AnswerName.un
 pub record Rest (m n : Machine) : Type 0 where
   pub pointer : n.controller.pointer ≡ m.controller.pointer
   pub master : n.controller.master ≡ m.controller.master
-  pub chain : n.controller.control.chain ≡ NoChain
-  pub bus : n.controller.control.bus ≡ Free
+  pub chain : n.controller.control.chain ≡ None
+  pub bus : n.controller.control.bus ≡ None
 
 -- After a stretch of n steps from a start, in which every answer is fine:
 pub record Demand3 (n : ℕ) (m : Machine) : Type 0 where

@@ -1,5 +1,5 @@
 -- Whose unit a call of a stretch is, and what a channel's operation begins with. For either channel. Assumes nothing.
-use Rattle.std.specs.Prelude.{◌≡◌, Bool, true, false, not, cond, ◌&&◌, List, [], ◌∷◌, ℕ, zero, suc, ◌<◌}
+use Rattle.std.specs.Prelude.{◌≡◌, Bool, true, false, not, cond, ◌&&◌, List, [], ◌∷◌, ℕ, zero, suc, ◌<◌, None, Option, Some}
 use Rattle.space.specs.declared.Place.{Place}
 use Rattle.unit_laws.specs.Local.{In, places}
 use Rattle.unit_count.specs.Count.{units}
@@ -9,13 +9,12 @@ use Rattle.word_operation.specs.declared.Operation.{Operation}
 use Rattle.word_mode.specs.Mode.{operation_of}
 use Rattle.unit.specs.declared.Moved.{Moved}
 use Rattle.unit.specs.Unit.{worked}
-use Rattle.step_bus.specs.declared.Chain.{Chain}
-use Rattle.step_bus.specs.declared.Chain.TheVariants.{NoChain, Of}
 use Rattle.step_rules.specs.declared.Choice.{Choice}
 use Rattle.step_rules.specs.declared.Choice.TheVariants as chosen
 use Rattle.step.specs.Step.{work_of}
 use Rattle.promises.specs.Machine.{Machine, next_choice, channel, unit_writes}
 use Rattle.promises.specs.Calls.{StretchCall, steps, lines, points, reads_pointer, reads, Moment, next}
+use Rattle.word_reload.specs.declared.Stage.{Stage}
 
 abbrev pub same : Which → Which → Bool
 same w v = not (is_other w v)
@@ -23,7 +22,7 @@ same w v = not (is_other w v)
 -- the step is a unit of channel w
 abbrev pub owns : Which → Choice → Bool
 owns w chosen.Disabled = false
-owns w (chosen.Refused n) = false
+owns w (chosen.Refused r) = false
 owns w (chosen.Fetch v s) = false
 owns w chosen.GiveBack = false
 owns w (chosen.Unit v) = same w v
@@ -32,11 +31,11 @@ owns w chosen.Release = false
 owns w chosen.Idle = false
 
 -- the chain under way, if any, is not channel w's
-abbrev pub spares : Which → Chain → Bool
-spares w NoChain = true
-spares w (Of v s) = not (same w v)
+abbrev pub spares : Which → Option (Which × Stage) → Bool
+spares w None = true
+spares w (Some (v, s)) = not (same w v)
 
-abbrev pub chain_of_machine : Machine → Chain
+abbrev pub chain_of_machine : Machine → Option (Which × Stage)
 chain_of_machine m = m.controller.control.chain
 
 -- ---- a stretch

@@ -1,5 +1,6 @@
 -- Demand 1, the run: its steps are the steps of the stretch, it stops where document 01 says, it answers their number, and a refused
 -- step keeps the steps before it. Assumes nothing.
+use Rattle.refusal.specs.declared.Refusal.TheVariants.{LongRun}
 use Rattle.std.specs.Prelude.{◌≡◌, true, false, ◌⊎◌, ℕ, ◌+◌, ◌<◌, ltb}
 use Rattle.space.specs.Space.{Spaces}
 use Rattle.unit_laws.specs.Machine.{iter, Every}
@@ -37,6 +38,6 @@ pub record Stopped (n k : ℕ) (m : Machine) (r : RunOutcome) : Type 0 where
 
 pub record Run (budget : ℕ) (u : Controller) (z : Spaces) : Type 0 where
   -- 11, and nothing is done: run of more than 65,536
-  pub refused : ltb 65536 budget ≡ true → run_of budget u z ≡ record { last = outcome (says u (Refused 11)) z; steps = 0 }
+  pub refused : ltb 65536 budget ≡ true → run_of budget u z ≡ record { last = outcome (says u (Refused LongRun)) z; steps = 0 }
   -- else its steps are the stretch's, and it answers how many came before the one that stops it, or else the whole budget
   pub carried : ltb 65536 budget ≡ false → Whole budget 0 (machine u z) (run_of budget u z) ⊎ Stopped budget 0 (machine u z) (run_of budget u z)

@@ -1,7 +1,7 @@
 -- Promise D1d, the record: what holds in every state that calls reach from a fresh controller. Absent bits are 0; CA comes with NAC; a
 -- chain is pending without SIP, CA and NAC; SIP is without NAC and CA; a chain under way, a kept bus and a note exclude one another; who
 -- chains or keeps the bus is enabled and clear. Assumes nothing.
-use Rattle.std.specs.Prelude.{◌≡◌, Bool, true, false, ℕ, ◌%◌}
+use Rattle.std.specs.Prelude.{◌≡◌, Bool, true, false, ℕ, ◌%◌, None, Option, Some}
 use Rattle.port.specs.declared.Which.{Which}
 use Rattle.port.specs.Ports.{kept_pointer}
 use Rattle.word_address.specs.declared.Address.{Address}
@@ -13,10 +13,6 @@ use Rattle.word_mode.specs.Mode.{request_mode_of, is_requested, kept_high}
 use Rattle.channel.specs.declared.Channel.{Channel}
 use Rattle.word_reload.specs.declared.Stage.{Stage}
 use Rattle.word_reload.specs.declared.Stage.TheVariants.{Reload, Entries}
-use Rattle.step_bus.specs.declared.Chain.{Chain}
-use Rattle.step_bus.specs.declared.Chain.TheVariants.{NoChain, Of}
-use Rattle.step_bus.specs.declared.Bus.{Bus}
-use Rattle.step_bus.specs.declared.Bus.TheVariants.{Free, Kept}
 use Rattle.step.specs.declared.Controller.{Controller}
 use Rattle.step.specs.Controller.{at}
 use Rattle.step_rules.specs.Rules.{is_enabled}
@@ -51,9 +47,9 @@ abbrev pub TidyStage : Stage → Type 0
 TidyStage Reload = Unit {0}
 TidyStage (Entries p) = kept_chain p.upper ≡ p.upper
 
-abbrev pub TidyHalf : Chain → Type 0
-TidyHalf NoChain = Unit {0}
-TidyHalf (Of w s) = TidyStage s
+abbrev pub TidyHalf : Option (Which × Stage) → Type 0
+TidyHalf None = Unit {0}
+TidyHalf (Some (w, s)) = TidyStage s
 
 -- ---- the flags of a channel
 
@@ -97,11 +93,11 @@ pub record Keeper (note on : Bool) (c : Channel) : Type 0 where
   pub software : Software c.mode
 
 -- a chain under way leaves the bus free
-abbrev pub Owned : Chain → Bus → Bool → Bool → (Which → Channel) → Type 0
-Owned NoChain Free note on c = Unit {0}
-Owned NoChain (Kept w) note on c = Keeper note on (c w)
-Owned (Of w s) Free note on c = Owner note on (c w)
-Owned (Of w s) (Kept v) note on c = ⊥
+abbrev pub Owned : Option (Which × Stage) → Option Which → Bool → Bool → (Which → Channel) → Type 0
+Owned None None note on c = Unit {0}
+Owned None (Some w) note on c = Keeper note on (c w)
+Owned (Some (w, s)) None note on c = Owner note on (c w)
+Owned (Some (w, s)) (Some v) note on c = ⊥
 
 -- ---- the controller
 

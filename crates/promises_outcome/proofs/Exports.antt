@@ -5,7 +5,6 @@ use Rattle.promises.specs.Demand1.{read_table, write_table, step_table, provided
 use Rattle.promises.proofs.Demand1.{demand1}
 use Rattle.promises_outcome.specs.Exports.{low, lent, Export}
 use Rattle.port_read.specs.declared.ReadPort.{ReadPort}
-use Rattle.port_read.specs.declared.ReadPort.TheVariants as reads
 use Rattle.port_write.specs.declared.WritePort.{WritePort}
 use Rattle.port_write.specs.declared.WritePort.TheVariants as writes
 use Rattle.port_read.specs.Readable.{read_port}
@@ -19,6 +18,10 @@ use native.Mathlib.Nat.{zero-lt-suc, mod-eq_of_lt}
 use native.Mathlib.Omega.{arith}
 use lib.Dec.{ltb}
 use borrow.Author.Tests.{lt-ltb}
+use Rattle.std.specs.Prelude.{Option, None, Some, Result, Ok, Err}
+use Rattle.refusal.specs.declared.Refusal.{Refusal}
+use Rattle.refusal.specs.Refusals.{number, numbered}
+use Rattle.refusal.proofs.Laws.{numbers}
 use Rattle.facts.proofs.Bits.{bit_le}
 use Rattle.facts.specs.First.{first_of, Exactly}
 use Rattle.space.specs.Space.{Spaces}
@@ -35,20 +38,18 @@ use Rattle.step_rules.specs.Rules.{intent_of, refusals}
 use Rattle.step.specs.declared.Controller.{Controller}
 use Rattle.step.specs.declared.Answer.{Answer}
 use Rattle.step.specs.declared.Answer.TheVariants.{Refused, Disabled, Idle, GivenBack, Holding, Fetched, Dropped, Unit, Ended}
-use Rattle.step.specs.Answers.{channel_number, paper}
+use Rattle.port.specs.Ports.{channel_number}
+use Rattle.step.specs.Answers.{paper}
 use Rattle.step.specs.Choice.{facts_of, faults_of}
 use Rattle.step.specs.Step.{RunOutcome, step_of}
-use Rattle.call_read.specs.declared.Reading.{Reading}
-use Rattle.call_read.specs.declared.Reading.TheVariants as reading
 use Rattle.call_read.specs.Reading.{read_of}
 use Rattle.call_read.specs.Answers.{paper_read}
-use Rattle.call_acknowledge.specs.declared.AckAnswer.{AckAnswer}
-use Rattle.call_acknowledge.specs.declared.AckAnswer.TheVariants as ack
+use Rattle.call_acknowledge.specs.declared.Acknowledgement.{Acknowledgement}
+use Rattle.call_acknowledge.specs.declared.Acknowledgement.TheVariants as ack
 use Rattle.call_acknowledge.specs.Acknowledge.{acknowledge_of}
 use Rattle.call_acknowledge.specs.Answers.{paper_ack}
 use Rattle.call_run.specs.Run.{run_of}
-use Rattle.standstill.specs.declared.WhyAnswer.{WhyAnswer}
-use Rattle.standstill.specs.declared.WhyAnswer.TheVariants as standstill
+use Rattle.standstill.specs.declared.Cause.{Cause}
 use Rattle.standstill.specs.Causes.{why_at}
 use Rattle.standstill.specs.Answers.{cause_number, paper_why}
 use Rattle.host_state.specs.Load.{state_of}
@@ -73,9 +74,9 @@ first_byte (x ∷ es) h = go x.0 (first_byte es h.1)
 byte : (n : ℕ) (t : List (Bool × ℕ)) → Exactly 0 n t → ByteRows t → n < 256
 byte n t e h = subst (λ (k : ℕ). k < 256) (sym e.is) (first_byte t h)
 
-step_bytes : (c : Choice) (b : Board) (u : Controller) → ByteRows (refusals c (faults_of b u))
+step_bytes : (c : Choice) (b : Board) (u : Controller) → ByteRows (numbered (refusals c (faults_of b u)))
 step_bytes choice.Disabled b u = refl
-step_bytes (choice.Refused n) b u = refl
+step_bytes (choice.Refused r) b u = refl
 step_bytes (choice.Fetch w Reload) b u = (omega arith, refl)
 step_bytes (choice.Fetch w (Entries p)) b u = refl
 step_bytes choice.GiveBack b u = refl
@@ -84,19 +85,15 @@ step_bytes (choice.Hold w) b u = refl
 step_bytes choice.Release b u = refl
 step_bytes choice.Idle b u = refl
 
-read_bytes : (p : ReadPort) → ByteRows (read_table p)
-read_bytes reads.MasterMode = refl
-read_bytes (reads.Status w) = refl
-read_bytes (reads.Save w) = refl
-read_bytes (reads.ModeHigh w) = refl
-read_bytes (reads.Of w r) = refl
-read_bytes reads.Nowhere = (omega arith, refl)
+read_bytes : (p : Option ReadPort) → ByteRows (read_table p)
+read_bytes None = (omega arith, refl)
+read_bytes (Some p) = refl
 
-write_bytes : (p : WritePort) (v : ℕ) (u : Controller) → ByteRows (write_table p v u)
-write_bytes writes.MasterMode v u = (omega arith, refl)
-write_bytes (writes.Command k) v u = (omega arith, (omega arith, (omega arith, (omega arith, refl))))
-write_bytes (writes.Of k r) v u = (omega arith, refl)
-write_bytes writes.Nowhere v u = (omega arith, refl)
+write_bytes : (p : Option WritePort) (v : ℕ) (u : Controller) → ByteRows (write_table p v u)
+write_bytes (Some writes.MasterMode) v u = (omega arith, refl)
+write_bytes (Some (writes.Command k)) v u = (omega arith, (omega arith, (omega arith, (omega arith, refl))))
+write_bytes (Some (writes.Of k r)) v u = (omega arith, refl)
+write_bytes None v u = (omega arith, refl)
 
 provided_bytes : (b : Bool) (t : List (Bool × ℕ)) → ByteRows t → ByteRows (provided b t)
 provided_bytes b [] h = refl
@@ -134,21 +131,21 @@ number_says n h = record { below = mod-eq_of_lt h; alone = λ q. refl }
 packed_says : (kind upper : ℕ) → Says (packed kind upper) 0
 packed_says kind upper = record { below = omega arith; alone = λ q. absurd (q refl) }
 
-read_says : (a : Reading) → (paper_read a).number < 256 → Says (read_number a) (paper_read a).number
-read_says (reading.Refused n) h = number_says n h
-read_says (reading.Value v) h = packed_says 0 v
+read_says : (a : Result ℕ Refusal) → Says (read_number a) (paper_read a).number
+read_says (Err r) = number_says (number r) (numbers r).1
+read_says (Ok v) = packed_says 0 v
 
-ack_says : (a : AckAnswer) → (paper_ack a).number < 256 → Says (ack_number a) (paper_ack a).number
-ack_says (ack.Refused n) h = number_says n h
-ack_says (ack.Word w v) h = packed_says (word_kind w) v
-ack_says (ack.NoWord w) h = packed_says (channel_number w) 0
+ack_says : (a : Result Acknowledgement Refusal) → Says (ack_number a) (paper_ack a).number
+ack_says (Err r) = number_says (number r) (numbers r).1
+ack_says (Ok (ack.Word w v)) = packed_says (word_kind w) v
+ack_says (Ok (ack.NoWord w)) = packed_says (channel_number w) 0
 
-why_says : (a : WhyAnswer) → (paper_why a).number < 256 → Says (why_number a) (paper_why a).number
-why_says (standstill.Refused n) h = number_says n h
-why_says (standstill.Because r) h = packed_says (cause_number r) 0
+why_says : (a : Result Cause Refusal) → Says (why_number a) (paper_why a).number
+why_says (Err r) = number_says (number r) (numbers r).1
+why_says (Ok c) = packed_says (cause_number c) 0
 
 step_says : (a : Answer) → (paper a).number < 256 → Says (step_number a) (paper a).number
-step_says (Refused n) h = number_says n h
+step_says (Refused r) h = number_says (number r) h
 step_says Disabled h = packed_says 0 0
 step_says Idle h = packed_says 1 0
 step_says (GivenBack Note) h = packed_says 2 0
@@ -172,7 +169,7 @@ of_channel : (kind : ℕ) (w : Which) → kind < 256 → packed kind (channel_nu
 of_channel kind w h = omega (arith, channel_small w)
 
 step_fits : (a : Answer) → (paper a).number < 256 → step_number a < 4294967296
-step_fits (Refused n) h = omega arith
+step_fits (Refused r) h = omega (arith, h)
 step_fits Disabled h = omega arith
 step_fits Idle h = omega arith
 step_fits (GivenBack Note) h = omega arith
@@ -234,13 +231,13 @@ export Call.read_pointer w z = record { number = refl; nothing = λ q. absurd (q
 export (Call.write v) w z =
     let h = number_byte (Call.write v) (lent w z) in
     record { number = (number_says _ h).below; nothing = λ q none. (stays (number_says _ h) h _ w q, refl) }
-export Call.read w z = record { number = (read_says (read_of (state_of w)) (number_byte Call.read (lent w z))).below; nothing = λ q none. (refl, refl) }
+export Call.read w z = record { number = (read_says (read_of (state_of w))).below; nothing = λ q none. (refl, refl) }
 export (Call.line n active) w z =
     let h = number_byte (Call.line n active) (lent w z) in
     record { number = (number_says _ h).below; nothing = λ q none. (stays (number_says _ h) h _ w q, refl) }
 export Call.acknowledge w z =
     let h = number_byte Call.acknowledge (lent w z) in
-    let s = ack_says (acknowledge_of (state_of w)).answer h in
+    let s = ack_says (acknowledge_of (state_of w)).answer in
     record { number = s.below; nothing = λ q none. (stays s h _ w q, refl) }
 export (Call.step eop) w z =
     let h = number_byte (Call.step eop) (lent w z) in
@@ -254,7 +251,7 @@ export (Call.run budget) w z = record {
   );
 }
 export (Call.why n) w z = record {
-  number = (why_says (why_at n (board_of z) (state_of w)) (number_byte (Call.why n) (lent w z))).below;
+  number = (why_says (why_at n (board_of z) (state_of w))).below;
   nothing = λ q none. (refl, refl);
 }
 

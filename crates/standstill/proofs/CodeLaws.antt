@@ -1,14 +1,12 @@
 -- What the tests of the code, and the branches on them, make of the reasons.
-use Prim.Native.Nat.{ℕ}
 use mathlib.Core.Path.{◌≡◌, sym, ap, ◌∙◌}
 use mathlib.Core.Bool.{Bool, true, false, not, cond}
-use mathlib.Core.Logic.{◌≢◌}
-use Rattle.facts.specs.First.{first_or, first_of}
+use Rattle.std.specs.Prelude.{None, Option, Some}
+use Rattle.refusal.specs.declared.Refusal.{Refusal}
+use Rattle.facts.specs.First.{first_or, first_some}
 use Rattle.port.specs.declared.Which.{Which}
 use Rattle.port.specs.Ports.{is_other}
 use Rattle.word_reload.specs.declared.Stage.{Stage}
-use Rattle.step_bus.specs.declared.Chain.{Chain}
-use Rattle.step_bus.specs.declared.Chain.TheVariants.{NoChain, Of}
 use Rattle.space_board.specs.declared.Board.{Board}
 use Rattle.step_rules.specs.declared.Choice.{Choice}
 use Rattle.step_rules.specs.declared.Choice.TheVariants.{Fetch, Unit}
@@ -21,20 +19,20 @@ use Rattle.step.specs.Choice.{facts_of, faults_of}
 use Rattle.standstill.specs.declared.Cause.{Cause}
 use Rattle.standstill.specs.declared.Cause.TheVariants.{NothingWrong}
 use Rattle.standstill.specs.Causes.{chain_on_the_other, bus_kept_by_the_other, own_by, requests_unmasked, cause_of, turn_causes, refusal_causes, request_causes, own_causes, why_of}
-use Rattle.standstill.proofs.Parts.{shared_first, request_first, steps_named, cause_or, by_number, refused_first}
+use Rattle.standstill.proofs.Parts.{shared_first, request_first, steps_named, cause_or, refused_first}
 
-module _ (own : Choice) (w : Which) (b : Board) (u : Controller) (n : ℕ) (r : Cause) (e : n ≡ first_of (refusals own (faults_of b u))) where
+module _ (own : Choice) (w : Which) (b : Board) (u : Controller) (n : Option Refusal) (r : Cause) (e : n ≡ first_some (refusals own (faults_of b u))) where
   abbrev turn : Cause
   turn = first_or NothingWrong (turn_causes w (facts_of u))
 
   first : cause_or n turn ≡ first_or NothingWrong (refusal_causes own w (facts_of u) (faults_of b u))
-  first = ap (λ (k : ℕ). cause_or k turn) e ∙ sym (refused_first (refusals own (faults_of b u)) (turn_causes w (facts_of u)) (steps_named b u own))
+  first = ap (λ (k : Option Refusal). cause_or k turn) e ∙ sym (refused_first (refusals own (faults_of b u)) (turn_causes w (facts_of u)) (steps_named b u own))
 
-  pub unrefused : n ≡ 0 → r ≡ turn → r ≡ first_or NothingWrong (refusal_causes own w (facts_of u) (faults_of b u))
-  unrefused z h = h ∙ sym (ap (λ (k : ℕ). cause_or k turn) z) ∙ first
+  pub unrefused : n ≡ None → r ≡ turn → r ≡ first_or NothingWrong (refusal_causes own w (facts_of u) (faults_of b u))
+  unrefused z h = h ∙ sym (ap (λ (k : Option Refusal). cause_or k turn) z) ∙ first
 
-  pub refused : n ≢ 0 → r ≡ cause_of n → r ≡ first_or NothingWrong (refusal_causes own w (facts_of u) (faults_of b u))
-  refused q h = h ∙ by_number n turn q ∙ first
+  pub refused : (x : Refusal) → n ≡ Some x → r ≡ cause_of x → r ≡ first_or NothingWrong (refusal_causes own w (facts_of u) (faults_of b u))
+  refused x q h = h ∙ sym (ap (λ (k : Option Refusal). cause_or k turn) q) ∙ first
 
 -- nothing of its request is in the way of a unit
 pub asks : (w : Which) (b : Board) (u : Controller) (c : Channel) (active : Bool) (r : Cause) → c ≡ at w u
@@ -55,13 +53,13 @@ module _ (w : Which) (b : Board) (u : Controller) (r : Cause) where
   pub would : {own i : Choice} → own ≡ i → Gives i → Gives own
   would e h = h ∙ ap (λ (i : Choice). first_or NothingWrong (own_causes i w (at w u) (facts_of u) (faults_of b u))) (sym e)
 
-  module _ (chain : Chain) (pending : Bool) where
-    pub none : chain ≡ NoChain → Gives (beginning pending w) → Gives (own_by chain pending w)
-    none e h = would (ap (λ (x : Chain). own_by x pending w) e) h
+  module _ (chain : Option (Which × Stage)) (pending : Bool) where
+    pub none : chain ≡ None → Gives (beginning pending w) → Gives (own_by chain pending w)
+    none e h = would (ap (λ (x : Option (Which × Stage)). own_by x pending w) e) h
 
-    module _ (v : Which) (s : Stage) (o : Bool) (e : chain ≡ Of v s) (eo : o ≡ is_other w v) where
+    module _ (v : Which) (s : Stage) (o : Bool) (e : chain ≡ Some (v, s)) (eo : o ≡ is_other w v) where
       its : own_by chain pending w ≡ cond o (beginning pending w) (Fetch w s)
-      its = ap (λ (x : Chain). own_by x pending w) e ∙ ap (λ (x : Bool). cond x (beginning pending w) (Fetch w s)) (sym eo)
+      its = ap (λ (x : Option (Which × Stage)). own_by x pending w) e ∙ ap (λ (x : Bool). cond x (beginning pending w) (Fetch w s)) (sym eo)
 
       pub of_the_other : o ≡ true → Gives (beginning pending w) → Gives (own_by chain pending w)
       of_the_other q h = would (its ∙ ap (λ (x : Bool). cond x (beginning pending w) (Fetch w s)) q) h

@@ -1,11 +1,10 @@
 -- The reasons part by part: what each part makes of what comes after it. Assumes nothing.
-use Prim.Native.Nat.{ℕ, zero, suc}
-use mathlib.Core.Path.{◌≡◌, refl, sym, ap, ◌∙◌}
-use mathlib.Core.Bool.{Bool, true, false, not, cond, ◌&&◌, true≢false}
-use mathlib.Core.Logic.{◌≢◌}
+use mathlib.Core.Path.{◌≡◌, refl}
+use mathlib.Core.Bool.{Bool, true, false, not, cond, ◌&&◌}
 use mathlib.Core.List.{List, [], ◌∷◌}
-use Rattle.facts.specs.First.{first_or, first_of}
-use Rattle.facts.specs.Look.{look}
+use Rattle.facts.specs.First.{first_or, first_some}
+use Rattle.std.specs.Prelude.{Option, None, Some, is_none}
+use Rattle.refusal.specs.declared.Refusal.{Refusal}
 use Rattle.space_board.specs.declared.Board.{Board}
 use Rattle.port.specs.declared.Which.{Which}
 use Rattle.word_address.specs.Address.{is_odd}
@@ -50,23 +49,19 @@ is_nothing NotCarried = false
 is_nothing OddWord = false
 is_nothing TurnOfTheOther = false
 
-abbrev pub is_zero : ℕ → Bool
-is_zero zero = true
-is_zero (suc n) = false
-
--- every refusal of the table has a number and a name
-abbrev pub AllNamed : List (Bool × ℕ) → Type 0
+-- every refusal of the table has a name
+abbrev pub AllNamed : List (Bool × Refusal) → Type 0
 AllNamed [] = true ≡ true
-AllNamed (e ∷ es) = (is_zero e.1 ≡ false) × ((is_nothing (cause_of e.1) ≡ false) × AllNamed es)
+AllNamed (e ∷ es) = (is_nothing (cause_of e.1) ≡ false) × AllNamed es
 
 pub steps_named : (b : Board) (u : Controller) (own : Choice) → AllNamed (refusals own (faults_of b u))
-unfolding cause_of look
+unfolding cause_of
 steps_named b u chosen.Disabled = refl
-steps_named b u (chosen.Refused n) = refl
-steps_named b u (chosen.Fetch w Reload) = (refl, (refl, refl))
+steps_named b u (chosen.Refused r) = refl
+steps_named b u (chosen.Fetch w Reload) = (refl, refl)
 steps_named b u (chosen.Fetch w (Entries p)) = refl
 steps_named b u chosen.GiveBack = refl
-steps_named b u (chosen.Unit w) = (refl, (refl, (refl, (refl, refl))))
+steps_named b u (chosen.Unit w) = (refl, (refl, refl))
 steps_named b u (chosen.Hold w) = refl
 steps_named b u chosen.Release = refl
 steps_named b u chosen.Idle = refl
@@ -77,38 +72,30 @@ pub rows : (b : Board) (w : Which) (u : Controller) (p : Progress) (more : List 
     × (refusals_before (refusals (chosen.Fetch w (Entries p)) (faults_of b u)) more ≡ more)
     × (refusals_before (refusals (chosen.Unit w) (faults_of b u)) more
     ≡ (not (carried (operation_of (at w u).mode)), NotCarried) ∷ (odd_word (operation_of (at w u).mode).moves (is_flipped (at w u).mode) (at w u).current, OddWord) ∷ more)
-unfolding cause_of look
+unfolding cause_of
 rows b w u p more = (refl, refl, refl)
 
--- the reason by the number that refuses, or what comes after
-abbrev pub cause_or : ℕ → Cause → Cause
-cause_or zero more = more
-cause_or (suc n) more = cause_of (suc n)
+-- the reason by what refuses, or what comes after
+abbrev pub cause_or : Option Refusal → Cause → Cause
+cause_or None more = more
+cause_or (Some r) more = cause_of r
 
-pub by_number : (n : ℕ) (more : Cause) → n ≢ 0 → cause_of n ≡ cause_or n more
-by_number zero more q = absurd (q refl)
-by_number (suc n) more q = refl
-
-named_nothing : (n : ℕ) (more : Cause) → is_zero n ≡ false → is_nothing (cause_of n) ≡ false → is_nothing (cause_or n more) ≡ (is_zero n && is_nothing more)
-named_nothing zero more e h = absurd (true≢false e)
-named_nothing (suc n) more e h = h
-
-pub refused_first : (t : List (Bool × ℕ)) (more : List (Bool × Cause)) → AllNamed t
-    → first_or NothingWrong (refusals_before t more) ≡ cause_or (first_of t) (first_or NothingWrong more)
+pub refused_first : (t : List (Bool × Refusal)) (more : List (Bool × Cause)) → AllNamed t
+    → first_or NothingWrong (refusals_before t more) ≡ cause_or (first_some t) (first_or NothingWrong more)
 refused_first [] more h = refl
-refused_first (x ∷ es) more h = go x.0 (refused_first es more h.1.1)
+refused_first (x ∷ es) more h = go x.0 (refused_first es more h.1)
   where
-    go : (b : Bool) → first_or NothingWrong (refusals_before es more) ≡ cause_or (first_of es) (first_or NothingWrong more)
-        → cond b (cause_of x.1) (first_or NothingWrong (refusals_before es more)) ≡ cause_or (cond b x.1 (first_of es)) (first_or NothingWrong more)
-    go true i = by_number x.1 (first_or NothingWrong more) (λ z. true≢false (sym (ap is_zero z) ∙ h.0))
+    go : (b : Bool) → first_or NothingWrong (refusals_before es more) ≡ cause_or (first_some es) (first_or NothingWrong more)
+        → cond b (cause_of x.1) (first_or NothingWrong (refusals_before es more)) ≡ cause_or (cond b (Some x.1) (first_some es)) (first_or NothingWrong more)
+    go true i = refl
     go false i = i
 
 -- nothing is wrong where nothing refuses and nothing comes after
-pub refused_nothing : (t : List (Bool × ℕ)) (more : Cause) → AllNamed t → is_nothing (cause_or (first_of t) more) ≡ (is_zero (first_of t) && is_nothing more)
+pub refused_nothing : (t : List (Bool × Refusal)) (more : Cause) → AllNamed t → is_nothing (cause_or (first_some t) more) ≡ (is_none (first_some t) && is_nothing more)
 refused_nothing [] more h = refl
-refused_nothing (x ∷ es) more h = go x.0 (refused_nothing es more h.1.1)
+refused_nothing (x ∷ es) more h = go x.0 (refused_nothing es more h.1)
   where
-    go : (b : Bool) → is_nothing (cause_or (first_of es) more) ≡ (is_zero (first_of es) && is_nothing more)
-        → is_nothing (cause_or (cond b x.1 (first_of es)) more) ≡ (is_zero (cond b x.1 (first_of es)) && is_nothing more)
-    go true i = named_nothing x.1 more h.0 h.1.0
+    go : (b : Bool) → is_nothing (cause_or (first_some es) more) ≡ (is_none (first_some es) && is_nothing more)
+        → is_nothing (cause_or (cond b (Some x.1) (first_some es)) more) ≡ (is_none (cond b (Some x.1) (first_some es)) && is_nothing more)
+    go true i = h.0
     go false i = i

@@ -1,9 +1,10 @@
 -- Nothing is wrong if and only if the step is for this channel: of any facts that are in order. One walk through the rules. Assumes nothing.
-use Prim.Native.Nat.{ℕ, zero, suc}
 use mathlib.Core.Path.{◌≡◌, refl, sym, ap, ◌∙◌}
 use mathlib.Core.Bool.{Bool, true, false, not, cond, ◌&&◌, true≢false}
 use mathlib.Core.Logic.{◌⊎◌, inl, inr}
-use Rattle.facts.specs.First.{first_or, first_of}
+use Rattle.std.specs.Prelude.{None, Option, Some, is_none}
+use Rattle.refusal.specs.declared.Refusal.{Refusal}
+use Rattle.facts.specs.First.{first_or, first_some}
 use Rattle.facts.proofs.Flags.{neither}
 use Rattle.port.specs.declared.Which.{Which}
 use Rattle.port.specs.declared.Which.TheVariants.{One, Two}
@@ -13,10 +14,6 @@ use Rattle.channel_request.proofs.Candidate.{Ready, candidate_exactly}
 use Rattle.channel.specs.declared.Channel.{Channel}
 use Rattle.word_reload.specs.declared.Stage.{Stage}
 use Rattle.word_reload.specs.declared.Stage.TheVariants.{Reload}
-use Rattle.step_bus.specs.declared.Chain.{Chain}
-use Rattle.step_bus.specs.declared.Chain.TheVariants.{Of}
-use Rattle.step_bus.specs.declared.Bus.TheVariants.{Free, Kept}
-use Rattle.step_rules.specs.declared.Turn.TheVariants.{Nobodys, Whose}
 use Rattle.step_rules.specs.declared.Choice.{Choice}
 use Rattle.step_rules.specs.declared.Choice.TheVariants as chosen
 use Rattle.step_rules.specs.Rules.{Facts, Faults, beginning, intent_of, refusals, refused_or, choice_of}
@@ -25,7 +22,7 @@ use Rattle.step_rules.proofs.View.Intends.{disabled, goes_on_by_rule, noted, kee
 use Rattle.standstill.specs.declared.Cause.{Cause}
 use Rattle.standstill.specs.declared.Cause.TheVariants.{NothingWrong, TurnOfTheOther}
 use Rattle.standstill.specs.Causes.{chain_on_the_other, bus_kept_by_the_other, turn_of_the_other, own_by, requests_unmasked, turn_causes, refusal_causes, own_causes, causes_by}
-use Rattle.standstill.proofs.Parts.{shared_first, request_first, is_nothing, is_zero, AllNamed, cause_or, refused_first, refused_nothing}
+use Rattle.standstill.proofs.Parts.{shared_first, request_first, is_nothing, AllNamed, cause_or, refused_first, refused_nothing}
 
 -- ---- this channel and the other
 
@@ -50,7 +47,7 @@ another Two = refl
 -- the step fetches a word or does a unit for this channel
 abbrev pub serves : Which → Choice → Bool
 serves w chosen.Disabled = false
-serves w (chosen.Refused n) = false
+serves w (chosen.Refused r) = false
 serves w (chosen.Fetch v stage) = not (is_other w v)
 serves w chosen.GiveBack = false
 serves w (chosen.Unit v) = not (is_other w v)
@@ -64,9 +61,9 @@ and_false : (b : Bool) → (b && false) ≡ false
 and_false true = refl
 and_false false = refl
 
-serves_or : (w : Which) (n : ℕ) (i : Choice) → serves w (refused_or n i) ≡ (is_zero n && serves w i)
-serves_or w zero i = refl
-serves_or w (suc n) i = refl
+serves_or : (w : Which) (n : Option Refusal) (i : Choice) → serves w (refused_or n i) ≡ (is_none n && serves w i)
+serves_or w None i = refl
+serves_or w (Some r) i = refl
 
 -- past the tests from CA to no request comes only who asks for a unit
 bars : (ca sip nac active unmasked : Bool) (more : Cause) → (candidate_of false active nac sip ca ≡ true → is_nothing more ≡ false)
@@ -91,10 +88,10 @@ pub record Unbarred (w : Which) (c : Channel) (f : Facts) : Type 0 where
 
 -- whose turn it is, that one is a candidate, and nobody's only if neither is; a chain under way leaves no note and the bus free; who keeps the bus is clear
 pub record Orderly (w : Which) (c : Channel) (f : Facts) : Type 0 where
-  pub turns : Turns (Whose w) f → candidate w c f ≡ true
-  pub nobodys : Turns Nobodys f → candidate w c f ≡ false
-  pub chains : (s : Stage) → f.chain ≡ Of w s → (f.note ≡ false) × (f.bus ≡ Free)
-  pub keeps_clear : f.bus ≡ Kept w → Unbarred w c f
+  pub turns : Turns (Some w) f → candidate w c f ≡ true
+  pub nobodys : Turns None f → candidate w c f ≡ false
+  pub chains : (s : Stage) → f.chain ≡ Some (w, s) → (f.note ≡ false) × (f.bus ≡ None)
+  pub keeps_clear : f.bus ≡ Some w → Unbarred w c f
 
 module _ (w : Which) (c : Channel) (f : Facts) (g : Faults) (named : (i : Choice) → AllNamed (refusals i g)) (o : Orderly w c f) where
   abbrev why : Cause
@@ -112,11 +109,11 @@ module _ (w : Which) (c : Channel) (f : Facts) (g : Faults) (named : (i : Choice
   abbrev others : Bool
   others = turn_of_the_other w f.chain f.bus f.turn
 
-  abbrev number : Choice → ℕ
-  number i = first_of (refusals i g)
+  abbrev refusal : Choice → Option Refusal
+  refusal i = first_some (refusals i g)
 
   abbrev Verdict : Choice → Type 0
-  Verdict i = is_nothing why ≡ serves w (refused_or (number i) i)
+  Verdict i = is_nothing why ≡ serves w (refused_or (refusal i) i)
 
   -- nothing of the controller's own is in the way
   past : {i : Choice} → f.enabled ≡ true → chain_on_the_other w f.chain ≡ false → f.note ≡ false → bus_kept_by_the_other w f.bus ≡ false
@@ -125,23 +122,23 @@ module _ (w : Which) (c : Channel) (f : Facts) (g : Faults) (named : (i : Choice
 
   -- .. and nobody has the bus
   calm : {i : Choice} → Calm f → bus_kept_by_the_other w f.bus ≡ false → beginning (f.pending w) w ≡ i → why ≡ own i
-  calm k b q = past k.enabled (ap (chain_on_the_other w) k.chain) k.note b (ap (λ (x : Chain). own_by x (f.pending w) w) k.chain ∙ q)
+  calm k b q = past k.enabled (ap (chain_on_the_other w) k.chain) k.note b (ap (λ (x : Option (Which × Stage)). own_by x (f.pending w) w) k.chain ∙ q)
 
-  fetches : (v : Which) (s : Stage) → own (chosen.Fetch v s) ≡ cause_or (number (chosen.Fetch v s)) turn
+  fetches : (v : Which) (s : Stage) → own (chosen.Fetch v s) ≡ cause_or (refusal (chosen.Fetch v s)) turn
   fetches v s = refused_first (refusals (chosen.Fetch v s) g) (turn_causes w f) (named (chosen.Fetch v s))
 
-  ready : Ready (f.active w) c.status.nac c.interrupt.sip c.status.ca → own (chosen.Unit w) ≡ cause_or (number (chosen.Unit w)) turn
+  ready : Ready (f.active w) c.status.nac c.interrupt.sip c.status.ca → own (chosen.Unit w) ≡ cause_or (refusal (chosen.Unit w)) turn
   ready r =
       (λ j. request_first (r.no_ca j) (r.no_sip j) (r.no_nac j) (r.active_request j) (requests_unmasked c) (first_or NothingWrong (refusal_causes (chosen.Unit w) w f g)))
       ∙ refused_first (refusals (chosen.Unit w) g) (turn_causes w f) (named (chosen.Unit w))
 
   -- ---- it is this channel's step
 
-  served : (i : Choice) → serves w i ≡ true → others ≡ false → why ≡ cause_or (number i) turn → Verdict i
+  served : (i : Choice) → serves w i ≡ true → others ≡ false → why ≡ cause_or (refusal i) turn → Verdict i
   served i s t e =
-      ap is_nothing (e ∙ ap (cause_or (number i)) (λ j. cond (t j) TurnOfTheOther NothingWrong))
+      ap is_nothing (e ∙ ap (cause_or (refusal i)) (λ j. cond (t j) TurnOfTheOther NothingWrong))
       ∙ refused_nothing (refusals i g) NothingWrong (named i)
-      ∙ sym (serves_or w (number i) i ∙ ap (λ (b : Bool). is_zero (number i) && b) s)
+      ∙ sym (serves_or w (refusal i) i ∙ ap (λ (b : Bool). is_none (refusal i) && b) s)
 
   fetched : (s : Stage) → others ≡ false → why ≡ own (chosen.Fetch w s) → Verdict (chosen.Fetch w s)
   fetched s t e = served (chosen.Fetch w s) (ap not (itself w)) t (e ∙ fetches w s)
@@ -152,25 +149,25 @@ module _ (w : Which) (c : Channel) (f : Facts) (g : Faults) (named : (i : Choice
   -- ---- it is not
 
   stands : (i : Choice) → serves w i ≡ false → is_nothing why ≡ false → Verdict i
-  stands i s e = e ∙ sym (serves_or w (number i) i ∙ ap (λ (b : Bool). is_zero (number i) && b) s ∙ and_false (is_zero (number i)))
+  stands i s e = e ∙ sym (serves_or w (refusal i) i ∙ ap (λ (b : Bool). is_none (refusal i) && b) s ∙ and_false (is_none (refusal i)))
 
   -- the bus is the other's
-  kept : (i : Choice) → Calm f → f.bus ≡ Kept (other w) → serves w i ≡ false → Verdict i
+  kept : (i : Choice) → Calm f → f.bus ≡ Some (other w) → serves w i ≡ false → Verdict i
   kept i k b s =
       stands i s
       (ap is_nothing (λ j. shared_first (not (k.enabled j)) (chain_on_the_other w (k.chain j)) (k.note j) ((ap (bus_kept_by_the_other w) b ∙ another w) j) rest))
 
   -- the turn is the other's
-  turned : (i : Choice) → Turns (Whose (other w)) f → serves w i ≡ false → Verdict i
+  turned : (i : Choice) → Turns (Some (other w)) f → serves w i ≡ false → Verdict i
   turned i t s = stands i s (ap is_nothing (calm t.calm (ap (bus_kept_by_the_other w) t.bus) refl) ∙ wrong (f.pending w))
     where
       late : (i : Choice) → is_nothing (first_or NothingWrong (refusal_causes i w f g)) ≡ false
       late x =
           ap is_nothing
           (refused_first (refusals x g) (turn_causes w f) (named x)
-          ∙ ap (cause_or (number x)) (λ j. cond (((λ i. turn_of_the_other w (t.calm.chain i) (t.bus i) (t.turn i)) ∙ another w) j) TurnOfTheOther NothingWrong))
+          ∙ ap (cause_or (refusal x)) (λ j. cond (((λ i. turn_of_the_other w (t.calm.chain i) (t.bus i) (t.turn i)) ∙ another w) j) TurnOfTheOther NothingWrong))
           ∙ refused_nothing (refusals x g) TurnOfTheOther (named x)
-          ∙ and_false (is_zero (number x))
+          ∙ and_false (is_none (refusal x))
 
       wrong : (p : Bool) → is_nothing (own (beginning p w)) ≡ false
       wrong true = late (chosen.Fetch w Reload)
@@ -182,10 +179,10 @@ module _ (w : Which) (c : Channel) (f : Facts) (g : Faults) (named : (i : Choice
 
   -- ---- rule by rule
 
-  keeper : Calm f → f.bus ≡ Kept w → why ≡ own (chosen.Unit w)
+  keeper : Calm f → f.bus ≡ Some w → why ≡ own (chosen.Unit w)
   keeper k b = calm k (ap (bus_kept_by_the_other w) b ∙ itself w) (ap (λ (p : Bool). beginning p w) (o.keeps_clear b).no_pending)
 
-  my_turn : Turns (Whose w) f → others ≡ false
+  my_turn : Turns (Some w) f → others ≡ false
   my_turn t = (λ j. turn_of_the_other w (t.calm.chain j) (t.bus j) (t.turn j)) ∙ itself w
 
   waits : (v : Which) (i : Choice) → Keeps false v f → serves w i ≡ false → Is w v → Verdict i
@@ -197,8 +194,8 @@ module _ (w : Which) (c : Channel) (f : Facts) (g : Faults) (named : (i : Choice
   by_rule _ (disabled e) = stands chosen.Disabled refl (ap is_nothing (λ j. shared_first (not (e j)) (chain_on_the_other w f.chain) f.note (bus_kept_by_the_other w f.bus) rest))
   by_rule _ (goes_on_by_rule v s e x) = go v s e x (whose w v)
     where
-      go : (v : Which) (s : Stage) → f.enabled ≡ true → f.chain ≡ Of v s → Is w v → Verdict (chosen.Fetch v s)
-      go _ s e x mine = fetched s (ap (λ (y : Chain). turn_of_the_other w y f.bus f.turn) x) (past e (ap (chain_on_the_other w) x ∙ itself w) (o.chains s x).0 (ap (bus_kept_by_the_other w) (o.chains s x).1) (ap (λ (y : Chain). own_by y (f.pending w) w) x ∙ ap (λ (b : Bool). cond b (beginning (f.pending w) w) (chosen.Fetch w s)) (itself w)))
+      go : (v : Which) (s : Stage) → f.enabled ≡ true → f.chain ≡ Some (v, s) → Is w v → Verdict (chosen.Fetch v s)
+      go _ s e x mine = fetched s (ap (λ (y : Option (Which × Stage)). turn_of_the_other w y f.bus f.turn) x) (past e (ap (chain_on_the_other w) x ∙ itself w) (o.chains s x).0 (ap (bus_kept_by_the_other w) (o.chains s x).1) (ap (λ (y : Option (Which × Stage)). own_by y (f.pending w) w) x ∙ ap (λ (b : Bool). cond b (beginning (f.pending w) w) (chosen.Fetch w s)) (itself w)))
       go _ s e x theirs =
           stands (chosen.Fetch (other w) s) (ap not (another w))
           (ap is_nothing (λ j. shared_first (not (e j)) ((ap (chain_on_the_other w) x ∙ another w) j) f.note (bus_kept_by_the_other w f.bus) rest))
@@ -215,12 +212,12 @@ module _ (w : Which) (c : Channel) (f : Facts) (g : Faults) (named : (i : Choice
   by_rule _ (releases v k h) = waits v chosen.Release k refl (whose w v)
   by_rule _ (begins_chain v t p) = go v t p (whose w v)
     where
-      go : (v : Which) → Turns (Whose v) f → f.pending v ≡ true → Is w v → Verdict (chosen.Fetch v Reload)
+      go : (v : Which) → Turns (Some v) f → f.pending v ≡ true → Is w v → Verdict (chosen.Fetch v Reload)
       go _ t p mine = fetched Reload (my_turn t) (calm t.calm (ap (bus_kept_by_the_other w) t.bus) (ap (λ (b : Bool). beginning b w) p))
       go _ t p theirs = turned (chosen.Fetch (other w) Reload) t (ap not (another w))
   by_rule _ (begins_unit v t p) = go v t p (whose w v)
     where
-      go : (v : Which) → Turns (Whose v) f → f.pending v ≡ false → Is w v → Verdict (chosen.Unit v)
+      go : (v : Which) → Turns (Some v) f → f.pending v ≡ false → Is w v → Verdict (chosen.Unit v)
       go _ t p mine = by_request ((candidate_exactly (f.pending w) (f.active w) c.status.nac c.interrupt.sip c.status.ca).0 (o.turns t))
         where
           by_request : (f.pending w ≡ true) ⊎ Ready (f.active w) c.status.nac c.interrupt.sip c.status.ca → Verdict (chosen.Unit w)

@@ -1,9 +1,9 @@
 -- Document 02, E4: the answer of why, as numbers. Assumes nothing.
-use Rattle.std.specs.Prelude.{ℕ}
+use Rattle.std.specs.Prelude.{ℕ, Result, Ok, Err}
 use Rattle.standstill.specs.declared.Cause.{Cause}
 use Rattle.standstill.specs.declared.Cause.TheVariants.{NothingWrong, Disabled, ChainOnTheOther, GiveBackNote, BusKeptByTheOther, Ca, Sip, Nac, Masked, NoRequest, OddChain, NotCarried, OddWord, TurnOfTheOther}
-use Rattle.standstill.specs.declared.WhyAnswer.{WhyAnswer}
-use Rattle.standstill.specs.declared.WhyAnswer.TheVariants.{Refused, Because}
+use Rattle.refusal.specs.declared.Refusal.{Refusal}
+use Rattle.refusal.specs.Refusals.{number}
 
 -- In document 02's order, nothing wrong being 0; 13 to 15 are for the reasons of E6 and E9.
 abbrev pub cause_number : Cause → ℕ
@@ -27,6 +27,6 @@ pub record PaperWhy : Type 0 where
   pub number : ℕ
   pub cause : ℕ
 
-abbrev pub paper_why : WhyAnswer → PaperWhy
-paper_why (Refused n) = record { number = n; cause = 0 }
-paper_why (Because r) = record { number = 0; cause = cause_number r }
+abbrev pub paper_why : Result Cause Refusal → PaperWhy
+paper_why (Err r) = record { number = number r; cause = 0 }
+paper_why (Ok c) = record { number = 0; cause = cause_number c }

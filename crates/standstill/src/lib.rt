@@ -11,13 +11,13 @@ ghost use Rattle.standstill.specs.Causes.{chain_on_the_other, bus_kept_by_the_ot
 
 use channel::Channel;
 use port::Which;
+use refusal::Refusal;
 use space_board::Board;
 use step::Controller;
-use step_bus::{Bus, Chain};
-use step_rules::Turn;
 use word_reload::Stage;
 
-#[derive(Clone, Copy)]
+// Nothing wrong stays a case: document 02's list ends with it, and it has the number 0 and words of its own.
+#[derive(Clone, Copy, Debug, PartialEq, Eq)]
 pub enum Cause {
     NothingWrong,
     Disabled,
@@ -35,43 +35,30 @@ pub enum Cause {
     TurnOfTheOther,
 }
 
-#[derive(Clone, Copy)]
-pub enum WhyAnswer {
-    Refused(u8),
-    Because(Cause),
-}
-
-fn is_chain_on_the_other(w: Which, chain: Chain) -> bool
+fn is_chain_on_the_other(w: Which, chain: Option<(Which, Stage)>) -> bool
     ensures { result ≡ chain_on_the_other w chain }
 {
     match chain {
-        Chain::NoChain => false,
-        Chain::Of(v, _) => port::is_other(w, v),
+        None => false,
+        Some((v, _)) => v != w,
     }
 }
 
-fn is_bus_kept_by_the_other(w: Which, bus: Bus) -> bool
+fn is_bus_kept_by_the_other(w: Which, bus: Option<Which>) -> bool
     ensures { result ≡ bus_kept_by_the_other w bus }
 {
-    match bus {
-        Bus::Free => false,
-        Bus::Kept(v) => port::is_other(w, v),
-    }
+    bus == Some(port::other(w))
 }
 
-fn is_turn_of_the_other(w: Which, chain: Chain, bus: Bus, turn: Turn) -> bool
+fn is_turn_of_the_other(
+    w: Which,
+    chain: Option<(Which, Stage)>,
+    bus: Option<Which>,
+    turn: Option<Which>,
+) -> bool
     ensures { result ≡ turn_of_the_other w chain bus turn }
 {
-    match chain {
-        Chain::NoChain => match bus {
-            Bus::Free => match turn {
-                Turn::Nobodys => false,
-                Turn::Whose(v) => port::is_other(w, v),
-            },
-            Bus::Kept(_) => false,
-        },
-        Chain::Of(_, _) => false,
-    }
+    chain.is_none() & bus.is_none() & (turn == Some(port::other(w)))
 }
 
 fn would_request_unmasked(c: Channel) -> bool
@@ -80,14 +67,14 @@ fn would_request_unmasked(c: Channel) -> bool
     channel_request::is_requesting(c.mode.with_mask(false), c.line)
 }
 
-#[tactic(auto, using(facts::proofs::Look::look_none), unfolding(crate::specs::Causes::cause_of, facts::specs::Look::look))]
-fn cause_of(refusal: u8) -> Cause
+#[tactic(auto, unfolding(crate::specs::Causes::cause_of))]
+fn cause_of(refusal: Refusal) -> Cause
     ensures { result ≡ cause_of refusal }
 {
     match refusal {
-        6 => Cause::OddChain,
-        7 => Cause::NotCarried,
-        8 => Cause::OddWord,
+        Refusal::OddChain => Cause::OddChain,
+        Refusal::NotCarried => Cause::NotCarried,
+        Refusal::OddWord => Cause::OddWord,
         _ => Cause::NothingWrong,
     }
 }
@@ -110,10 +97,10 @@ fn fetch_cause(stage: Stage, w: Which, board: Board, u: Controller) -> Cause
     ensures { result ≡ first_or Cause.NothingWrong (refusal_causes (Fetch w stage) w (facts_of u) (faults_of board u)) }
 {
     let refusal = step_rules_code::fetch_refusal(stage, u.channel(w).chain.is_odd());
-    if refusal == 0 {
-        return turn_cause(w, u);
+    match refusal {
+        None => turn_cause(w, u),
+        Some(r) => cause_of(r),
     }
-    cause_of(refusal)
 }
 
 // From the operation on, for a unit.
@@ -123,10 +110,10 @@ fn unit_cause(w: Which, board: Board, u: Controller) -> Cause
 {
     let c = u.channel(w);
     let refusal = unit::unit_refusal(board, c.mode, c.current);
-    if refusal == 0 {
-        return turn_cause(w, u);
+    match refusal {
+        None => turn_cause(w, u),
+        Some(r) => cause_of(r),
     }
-    cause_of(refusal)
 }
 
 // From CA on, for a unit.
@@ -171,9 +158,9 @@ fn own_cause(w: Which, board: Board, u: Controller) -> Cause
     let control = u.control;
     let chain = control.chain;
     match chain {
-        Chain::NoChain => beginning_cause(w, board, u),
-        Chain::Of(v, stage) => {
-            if port::is_other(w, v) {
+        None => beginning_cause(w, board, u),
+        Some((v, stage)) => {
+            if v != w {
                 return beginning_cause(w, board, u);
             }
             fetch_cause(stage, w, board, u)
@@ -203,13 +190,10 @@ fn first_cause(w: Which, board: Board, u: Controller) -> Cause
     own_cause(w, board, u)
 }
 
-#[tactic(auto, using(facts::proofs::Look::look_none), unfolding(facts::specs::Look::look, crate::specs::Causes::why_at))]
-pub fn why(number: u32, board: Board, u: Controller) -> WhyAnswer
+#[tactic(auto, unfolding(crate::specs::Causes::why_at))]
+pub fn why(number: u32, board: Board, u: Controller) -> Result<Cause, Refusal>
     ensures { result ≡ why_at number board u }
 {
-    match number {
-        1 => WhyAnswer::Because(first_cause(Which::One, board, u)),
-        2 => WhyAnswer::Because(first_cause(Which::Two, board, u)),
-        _ => WhyAnswer::Refused(10),
-    }
+    let w = Which::try_from(number)?;
+    Ok(first_cause(w, board, u))
 }

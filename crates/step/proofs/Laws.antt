@@ -1,21 +1,18 @@
 -- A controller with a channel anew; and the view of the choice, of its registers. Assumes nothing.
 use mathlib.Core.Path.{◌≡◌, refl, subst}
 use mathlib.Core.Bool.{Bool, true, false, ◌&&◌}
+use Rattle.refusal.specs.declared.Refusal.{Refusal}
 use Rattle.port.specs.declared.Which.{Which}
 use Rattle.port.specs.declared.Which.TheVariants.{One, Two}
 use Rattle.channel.specs.declared.Channel.{Channel}
 use Rattle.channel.specs.Candidate.{is_candidate, interleaves}
 use Rattle.step_bus.specs.declared.Control.{Control}
-use Rattle.step_bus.specs.declared.Served.{Served}
-use Rattle.step_bus.specs.declared.Served.TheVariants.{Nobody, Last}
 use Rattle.space_board.specs.declared.Board.{Board}
 use Rattle.step_rules.specs.declared.Choice.{Choice}
 use Rattle.step_rules.specs.declared.Choice.TheVariants.{Disabled, Refused, GiveBack, Release, Idle}
 use Rattle.step.specs.Step.{perform_of}
 use Rattle.space.specs.Space.{Spaces}
-use Prim.Native.Nat.{ℕ}
-use Rattle.step_rules.specs.declared.Turn.{Turn}
-use Rattle.step_rules.specs.declared.Turn.TheVariants.{Nobodys, Whose}
+use Rattle.std.specs.Prelude.{None, Option, Some}
 use Rattle.step_rules.specs.Rules.{turn_by}
 use Rattle.step_rules.proofs.View.{Turns, Because, because, only}
 use Rattle.step.specs.declared.Controller.{Controller}
@@ -63,11 +60,11 @@ chooses b u h = only (facts_of u) (faults_of b u) h
 
 -- ---- whose turn it is, that one is a candidate; where it is nobody's, neither is
 
-abbrev TurnFacts : Turn → Controller → Type 0
-TurnFacts Nobodys u = (w : Which) → is_candidate (at w u) ≡ false
-TurnFacts (Whose w) u = is_candidate (at w u) ≡ true
+abbrev TurnFacts : Option Which → Controller → Type 0
+TurnFacts None u = (w : Which) → is_candidate (at w u) ≡ false
+TurnFacts (Some w) u = is_candidate (at w u) ≡ true
 
-turn_named : (a b both : Bool) (s : Served) (u : Controller) → is_candidate u.one ≡ a → is_candidate u.two ≡ b → TurnFacts (turn_by a b both s) u
+turn_named : (a b both : Bool) (s : Option Which) (u : Controller) → is_candidate u.one ≡ a → is_candidate u.two ≡ b → TurnFacts (turn_by a b both s) u
 unfolding at
 turn_named false false both s u p q = neither
   where
@@ -77,29 +74,29 @@ turn_named false false both s u p q = neither
 turn_named false true both s u p q = q
 turn_named true false both s u p q = p
 turn_named true true false s u p q = p
-turn_named true true true Nobody u p q = p
-turn_named true true true (Last One) u p q = q
-turn_named true true true (Last Two) u p q = p
+turn_named true true true None u p q = p
+turn_named true true true (Some One) u p q = q
+turn_named true true true (Some Two) u p q = p
 
-turn_facts : {t : Turn} (u : Controller) → Turns t (facts_of u) → TurnFacts t u
+turn_facts : {t : (Option Which)} (u : Controller) → Turns t (facts_of u) → TurnFacts t u
 unfolding turn
 turn_facts u t =
-    subst (λ (x : Turn). TurnFacts x u) t.turn
+    subst (λ (x : Option Which). TurnFacts x u) t.turn
     (turn_named (is_candidate u.one) (is_candidate u.two) (interleaves u.one && interleaves u.two) u.control.served u refl refl)
 
-pub is_candidate_lem : (w : Which) (u : Controller) → Turns (Whose w) (facts_of u) → is_candidate (at w u) ≡ true
+pub is_candidate_lem : (w : Which) (u : Controller) → Turns (Some w) (facts_of u) → is_candidate (at w u) ≡ true
 is_candidate_lem w u t = turn_facts u t
 
-pub no_candidate : (w : Which) (u : Controller) → Turns Nobodys (facts_of u) → is_candidate (at w u) ≡ false
+pub no_candidate : (w : Which) (u : Controller) → Turns None (facts_of u) → is_candidate (at w u) ≡ false
 no_candidate w u t = turn_facts u t w
 
 -- ---- EOP is ignored but by a unit, a fetch and while holding
 
-pub eop_ignored : (n : ℕ) (u : Controller) (z : Spaces)
+pub eop_ignored : (r : Refusal) (u : Controller) (z : Spaces)
     → (perform_of Disabled true u z ≡ perform_of Disabled false u z)
-    × (perform_of (Refused n) true u z ≡ perform_of (Refused n) false u z)
+    × (perform_of (Refused r) true u z ≡ perform_of (Refused r) false u z)
     × (perform_of GiveBack true u z ≡ perform_of GiveBack false u z)
     × (perform_of Release true u z ≡ perform_of Release false u z)
     × (perform_of Idle true u z ≡ perform_of Idle false u z)
 unfolding perform_of
-eop_ignored n u z = (refl, refl, refl, refl, refl)
+eop_ignored r u z = (refl, refl, refl, refl, refl)

@@ -2,8 +2,8 @@
 -- Assumes nothing.
 use Rattle.std.specs.Prelude.{ℕ, false}
 use Rattle.facts.specs.Bits.{bit_if}
-use Rattle.port.specs.declared.Which.{Which}
-use Rattle.port.specs.declared.Which.TheVariants.{One, Two}
+use Rattle.refusal.specs.Refusals.{number}
+use Rattle.port.specs.Ports.{channel_number}
 use Rattle.word_mode.specs.declared.Reasons.{Reasons}
 use Rattle.step_bus.specs.declared.Back.TheVariants.{Note, Bus}
 use Rattle.step.specs.declared.Answer.{Answer}
@@ -23,12 +23,8 @@ pub record Paper : Type 0 where
 abbrev pub none : Reasons
 none = record { tc = false; mc = false; eop = false }
 
-abbrev pub channel_number : Which → ℕ
-channel_number One = 1
-channel_number Two = 2
-
 abbrev pub paper : Answer → Paper
-paper (Refused n) = record { number = n; name = refused; channel = 0; why = none; upper = 0 }
+paper (Refused r) = record { number = number r; name = refused; channel = 0; why = none; upper = 0 }
 paper Disabled = record { number = 0; name = disabled; channel = 0; why = none; upper = 0 }
 paper Idle = record { number = 0; name = idle; channel = 0; why = none; upper = 0 }
 paper (GivenBack Note) = record { number = 0; name = given_back; channel = 0; why = none; upper = 0 }

@@ -1,5 +1,5 @@
 -- Document 01, "Which step comes next": what the rules ask of a controller's registers, and the choice. Assumes nothing.
-use Rattle.std.specs.Prelude.{◌&&◌}
+use Rattle.std.specs.Prelude.{◌&&◌, Option}
 use Rattle.word_mode.specs.Mode.{request_mode_of}
 use Rattle.word_address.specs.Address.{is_odd}
 use Rattle.unit.specs.Unit.{unit_refusals}
@@ -8,12 +8,12 @@ use Rattle.channel_request.specs.Request.{requests}
 use Rattle.space_board.specs.declared.Board.{Board}
 use Rattle.step.specs.declared.Controller.{Controller}
 use Rattle.step_rules.specs.declared.Choice.{Choice}
-use Rattle.step_rules.specs.declared.Turn.{Turn}
 use Rattle.step_rules.specs.Rules.{is_enabled, turn_by, Facts, Faults, choice_of}
 use Rattle.step.specs.Controller.{at}
+use Rattle.port.specs.declared.Which.{Which}
 
 -- If both are units in demand interleave, the channel not served last; otherwise the lower numbered candidate.
-unfoldable pub turn : Controller → Turn
+unfoldable pub turn : Controller → Option Which
 turn u = turn_by (is_candidate u.one) (is_candidate u.two) (interleaves u.one && interleaves u.two) u.control.served
 
 abbrev pub facts_of : Controller → Facts

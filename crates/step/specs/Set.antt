@@ -4,7 +4,7 @@ use Rattle.step.specs.declared.Answer.{Answer}
 use Rattle.channel.specs.declared.Channel.{Channel}
 use Rattle.step_bus.specs.declared.Control.{Control}
 use Rattle.step.specs.declared.Controller.{Controller}
-use Rattle.step.specs.declared.Stepped.{Stepped}
+use Rattle.step.specs.declared.Done.{Done}
 
 infixl 90 ◌⟨pointer≔◌⟩
 infixl 90 ◌⟨master≔◌⟩
@@ -28,8 +28,8 @@ abbrev pub ◌⟨one≔◌⟩ : Controller → Channel → Controller
 abbrev pub ◌⟨two≔◌⟩ : Controller → Channel → Controller
 ◌⟨two≔◌⟩ x v = record { pointer = x.pointer; master = x.master; control = x.control; one = x.one; two = v }
 
-abbrev pub ◌⟨state≔◌⟩ : Stepped → Controller → Stepped
+abbrev pub ◌⟨state≔◌⟩ : Done Answer → Controller → Done Answer
 ◌⟨state≔◌⟩ x v = record { state = v; answer = x.answer }
 
-abbrev pub ◌⟨answer≔◌⟩ : Stepped → Answer → Stepped
+abbrev pub ◌⟨answer≔◌⟩ : Done Answer → Answer → Done Answer
 ◌⟨answer≔◌⟩ x v = record { state = x.state; answer = v }

@@ -12,7 +12,7 @@ use Rattle.channel.specs.declared.Channel.{Channel}
 use Rattle.channel.specs.declared.Ended.{Ended}
 use Rattle.channel.specs.Ending.{reasons_of, moved_by, unended, end_of, after_unit}
 use Rattle.step.specs.declared.Controller.{Controller}
-use Rattle.step.specs.declared.Stepped.{Stepped}
+use Rattle.step.specs.declared.Done.{Done}
 use Rattle.step.specs.declared.Ran.{Ran}
 use Rattle.step.specs.declared.UnitAnswer.{UnitAnswer}
 use Rattle.step_rules.specs.declared.Choice.{Choice}
@@ -31,13 +31,13 @@ use Rattle.step.specs.Fetching.{fetch_of}
 
 -- All that a step leaves: the next state and the answer, and both spaces.
 pub record Outcome : Type 0 where
-  pub stepped : Stepped
+  pub stepped : Done Answer
   pub spaces : Spaces
 
-abbrev pub outcome : Stepped → Spaces → Outcome
+abbrev pub outcome : Done Answer → Spaces → Outcome
 outcome r z = record { stepped = r; spaces = z }
 
-abbrev pub says : Controller → Answer → Stepped
+abbrev pub says : Controller → Answer → Done Answer
 says u a = record { state = u; answer = a }
 
 -- All that some steps leave: the last one's outcome, and how many they were.
@@ -62,7 +62,7 @@ work_of c = record {
 abbrev pub unit_answer : Moved → Bool → UnitAnswer
 unit_answer m eop = record { why = reasons_of m eop; upper = m.upper }
 
-unfoldable pub unit_of : Which → Bool → Controller → Moved → Stepped
+unfoldable pub unit_of : Which → Bool → Controller → Moved → Done Answer
 unit_of w eop u m =
     let c = at w u in
     let e = after_unit w eop m c in
@@ -88,19 +88,19 @@ ended_after w why u m =
 abbrev pub eop_alone : Reasons
 eop_alone = record { tc = false; mc = false; eop = true }
 
-abbrev pub hold_by : Bool → Which → Controller → Ended → Stepped
+abbrev pub hold_by : Bool → Which → Controller → Ended → Done Answer
 hold_by true w u e =
     says
     (with w e.channel (u ⟨control≔ held_control e.chains w u.control ⟩))
     (answer.Ended w)
 hold_by false w u e = says u (answer.Holding w)
 
-unfoldable pub hold_of : Which → Bool → Controller → Stepped
+unfoldable pub hold_of : Which → Bool → Controller → Done Answer
 hold_of w eop u = hold_by eop w u (end_of w eop_alone (at w u))
 
 -- ---- given back
 
-abbrev pub back_of : Back → Controller → Stepped
+abbrev pub back_of : Back → Controller → Done Answer
 back_of back u = says (u ⟨control≔ back_control back u.control ⟩) (answer.GivenBack back)
 
 -- ---- a step
@@ -108,7 +108,7 @@ back_of back u = says (u ⟨control≔ back_control back u.control ⟩) (answer.
 -- A refused step changes nothing, EOP or not.
 unfoldable pub perform_of : Choice → Bool → Controller → Spaces → Outcome
 perform_of Disabled eop u z = outcome (says u answer.Disabled) z
-perform_of (Refused n) eop u z = outcome (says u (answer.Refused n)) z
+perform_of (Refused r) eop u z = outcome (says u (answer.Refused r)) z
 perform_of (Fetch w stage) eop u z = outcome (fetch_of w stage eop u z.memory) z
 perform_of GiveBack eop u z = outcome (back_of Note u) z
 perform_of (Unit w) eop u z = let k = worked (work_of (at w u)) z in outcome (unit_of w eop u k.moved) k.spaces

@@ -4,38 +4,18 @@
 use port::Which;
 use word_reload::Stage;
 
-// A chain under way.
-#[derive(Clone, Copy)]
-pub enum Chain {
-    NoChain,
-    Of(Which, Stage),
-}
-
-// The bus: free, or kept by a channel.
-#[derive(Clone, Copy)]
-pub enum Bus {
-    Free,
-    Kept(Which),
-}
-
-// The channel of the latest unit.
-#[derive(Clone, Copy)]
-pub enum Served {
-    Nobody,
-    Last(Which),
-}
-
-// What belongs to no channel: the chain under way, the kept bus, the give-back note, and who was served last.
-#[derive(Clone, Copy)]
+// What belongs to no channel: the chain under way and its next word, the channel that keeps the bus, the give-back note, and the channel
+// of the latest unit.
+#[derive(Clone, Copy, Debug, PartialEq, Eq)]
 pub struct Control {
-    pub chain: Chain,
-    pub bus: Bus,
+    pub chain: Option<(Which, Stage)>,
+    pub bus: Option<Which>,
     pub note: bool,
-    pub served: Served,
+    pub served: Option<Which>,
 }
 
 // The two cases of given back: the note, or the bus.
-#[derive(Clone, Copy)]
+#[derive(Clone, Copy, Debug, PartialEq, Eq)]
 pub enum Back {
     Note,
     Bus,

@@ -5,15 +5,15 @@ ghost use Rattle.std.specs.Prelude.{◌≡◌};
 ghost use Rattle.step_bus.specs.After.{chain_after, unended_control, ended_control, held_control, control_fetched, back_control};
 
 use port::Which;
-use step_bus::{Back, Bus, Chain, Control, Served};
+use step_bus::{Back, Control};
 use word_mode::RequestMode;
-use word_reload::{Next, Stage};
+use word_reload::{Progress, Stage};
 
-fn chain_after(chains: bool, w: Which, chain: Chain) -> Chain
+fn chain_after(chains: bool, w: Which, chain: Option<(Which, Stage)>) -> Option<(Which, Stage)>
     ensures { result ≡ chain_after chains w chain }
 {
     if chains {
-        Chain::Of(w, Stage::Reload)
+        Some((w, Stage::Reload))
     } else {
         chain
     }
@@ -26,27 +26,27 @@ pub fn unended_control(m: RequestMode, cpu: bool, w: Which, k: Control) -> Contr
     match m {
         RequestMode::Single => Control {
             chain,
-            bus: Bus::Free,
+            bus: None,
             note: k.note,
-            served: Served::Last(w),
+            served: Some(w),
         },
         RequestMode::DemandHold => Control {
             chain,
-            bus: Bus::Kept(w),
+            bus: Some(w),
             note: k.note,
-            served: Served::Last(w),
+            served: Some(w),
         },
         RequestMode::DemandRelease => Control {
             chain,
-            bus: Bus::Kept(w),
+            bus: Some(w),
             note: k.note,
-            served: Served::Last(w),
+            served: Some(w),
         },
         RequestMode::DemandInterleave => Control {
             chain,
-            bus: Bus::Free,
+            bus: None,
             note: cpu | k.note,
-            served: Served::Last(w),
+            served: Some(w),
         },
     }
 }
@@ -58,9 +58,9 @@ pub fn ended_control(chains: bool, w: Which, k: Control) -> Control
     let chain = k.chain;
     Control {
         chain: chain_after(chains, w, chain),
-        bus: Bus::Free,
+        bus: None,
         note: k.note,
-        served: Served::Last(w),
+        served: Some(w),
     }
 }
 
@@ -72,28 +72,34 @@ pub fn held_control(chains: bool, w: Which, k: Control) -> Control
     let served = k.served;
     Control {
         chain: chain_after(chains, w, chain),
-        bus: Bus::Free,
+        bus: None,
         note: k.note,
         served,
     }
 }
 
-pub fn control_fetched(next: Next, cpu: bool, active: bool, w: Which, k: Control) -> Control
+pub fn control_fetched(
+    next: Option<Progress>,
+    cpu: bool,
+    active: bool,
+    w: Which,
+    k: Control,
+) -> Control
     ensures { result ≡ control_fetched next cpu active w k }
 {
     let bus = k.bus;
     let served = k.served;
     match next {
-        Next::More(p) => Control {
-            chain: Chain::Of(w, Stage::Entries(p)),
+        Some(p) => Control {
+            chain: Some((w, Stage::Entries(p))),
             bus,
             note: k.note,
             served,
         },
-        Next::Complete => {
+        None => {
             if cpu {
                 return Control {
-                    chain: Chain::NoChain,
+                    chain: None,
                     bus,
                     note: true,
                     served,
@@ -101,14 +107,14 @@ pub fn control_fetched(next: Next, cpu: bool, active: bool, w: Which, k: Control
             }
             if active {
                 return Control {
-                    chain: Chain::NoChain,
-                    bus: Bus::Kept(w),
+                    chain: None,
+                    bus: Some(w),
                     note: k.note,
                     served,
                 };
             }
             Control {
-                chain: Chain::NoChain,
+                chain: None,
                 bus,
                 note: k.note,
                 served,
@@ -127,14 +133,8 @@ pub fn give_back(back: Back, mut k: Control) -> Control
             k
         }
         Back::Bus => {
-            let chain = k.chain;
-            let served = k.served;
-            Control {
-                chain,
-                bus: Bus::Free,
-                note: k.note,
-                served,
-            }
+            k.bus = None;
+            k
         }
     }
 }

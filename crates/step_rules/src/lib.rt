@@ -2,23 +2,17 @@
 #![tactic(auto)]
 
 use port::Which;
+use refusal::Refusal;
 use word_reload::Stage;
 
-#[derive(Clone, Copy)]
+#[derive(Clone, Copy, Debug, PartialEq, Eq)]
 pub enum Choice {
     Disabled,
-    Refused(u8),
+    Refused(Refusal),
     Fetch(Which, Stage),
     GiveBack,
     Unit(Which),
     Hold(Which),
     Release,
     Idle,
-}
-
-// Whose turn it is among the candidates.
-#[derive(Clone, Copy)]
-pub enum Turn {
-    Nobodys,
-    Whose(Which),
 }

@@ -2,7 +2,7 @@
 #![tactic(auto)]
 
 ghost use Rattle.std.specs.Prelude.{◌≡◌, true};
-ghost use Rattle.facts.specs.First.{first_of};
+ghost use Rattle.facts.specs.First.{first_some};
 ghost use Rattle.step_rules.specs.Rules.{is_enabled, is_interleaved, turn_by, beginning, fetch_refusals, refused_or};
 ghost use Rattle.word_mode.specs.Mode.{is_interleave};
 ghost use Rattle.step_rules_code.specs.Channels.{keeper};
@@ -10,48 +10,40 @@ ghost use Rattle.channel.specs.Candidate.{interleaves};
 
 use channel::Channel;
 use port::Which;
-use step_bus::Served;
-use step_rules::{Choice, Turn};
+use refusal::Refusal;
+use step_rules::Choice;
 use word_mode::RequestMode;
 use word_reload::Stage;
 
 pub fn is_enabled(master: u16) -> bool
     ensures { result ≡ is_enabled master }
 {
-    master & 1 == 1
+    facts::bit(master, 0)
 }
 
 pub fn is_interleaved(master: u16) -> bool
     ensures { result ≡ is_interleaved master }
 {
-    (master >> 1) & 1 == 1
+    facts::bit(master, 1)
 }
 
 pub fn is_interleave(mode: RequestMode) -> bool
     ensures { result ≡ is_interleave mode }
 {
-    match mode {
-        RequestMode::Single => false,
-        RequestMode::DemandHold => false,
-        RequestMode::DemandRelease => false,
-        RequestMode::DemandInterleave => true,
-    }
+    mode == RequestMode::DemandInterleave
 }
 
 // Of two units in demand interleave the channel not served last comes next.
-fn other_turn(served: Served) -> Turn
+fn other_turn(served: Option<Which>) -> Option<Which>
     ensures { result ≡ turn_by true true true served }
 {
     match served {
-        Served::Nobody => Turn::Whose(Which::One),
-        Served::Last(w) => match w {
-            Which::One => Turn::Whose(Which::Two),
-            Which::Two => Turn::Whose(Which::One),
-        },
+        None => Some(Which::One),
+        Some(w) => Some(port::other(w)),
     }
 }
 
-pub fn whose_turn(first: bool, second: bool, both: bool, served: Served) -> Turn
+pub fn whose_turn(first: bool, second: bool, both: bool, served: Option<Which>) -> Option<Which>
     ensures { result ≡ turn_by first second both served }
 {
     if first {
@@ -59,15 +51,11 @@ pub fn whose_turn(first: bool, second: bool, both: bool, served: Served) -> Turn
             if both {
                 return other_turn(served);
             }
-            return Turn::Whose(Which::One);
+            return Some(Which::One);
         }
-        return Turn::Whose(Which::One);
+        return Some(Which::One);
     }
-    if second {
-        Turn::Whose(Which::Two)
-    } else {
-        Turn::Nobodys
-    }
+    if second { Some(Which::Two) } else { None }
 }
 
 // Rule 4, for a channel that keeps the bus.
@@ -98,26 +86,29 @@ pub fn begin_intent(pending: bool, w: Which) -> Choice
     }
 }
 
-// The number that refuses a fetch, or 0.
-pub fn fetch_refusal(stage: Stage, odd: bool) -> u8
-    ensures { result ≡ first_of (fetch_refusals odd stage) }
+// What a fetch is refused by, if by anything.
+pub fn fetch_refusal(stage: Stage, odd: bool) -> Option<Refusal>
+    ensures { result ≡ first_some (fetch_refusals odd stage) }
 {
     match stage {
         Stage::Reload => {
             if odd {
-                return 6;
+                return Some(Refusal::OddChain);
             }
-            0
+            None
         }
-        Stage::Entries(_) => 0,
+        Stage::Entries(_) => None,
     }
 }
 
-// What is intended, or its refusal by a number.
-pub fn refused_or(n: u8, intent: Choice) -> Choice
-    ensures { result ≡ refused_or n intent }
+// What is intended, or its refusal.
+pub fn refused_or(refusal: Option<Refusal>, intent: Choice) -> Choice
+    ensures { result ≡ refused_or refusal intent }
 {
-    if n == 0 { intent } else { Choice::Refused(n) }
+    match refusal {
+        None => intent,
+        Some(r) => Choice::Refused(r),
+    }
 }
 
 #[tactic(auto, unfolding(channel::specs::Candidate::interleaves))]

@@ -20,7 +20,8 @@ use Rattle.chain_stride.specs.declared.Fetched.{Fetched}
 use Rattle.chain_stride.specs.Fetches.{fetched_as, fetches_of}
 use Rattle.step_rules.specs.declared.Choice.TheVariants.{Unit}
 use Rattle.step.specs.declared.Controller.{Controller}
-use Rattle.step.specs.declared.Stepped.{Stepped}
+use Rattle.step.specs.declared.Done.{Done}
+use Rattle.step.specs.declared.Answer.{Answer}
 use Rattle.step.specs.declared.Answer.TheVariants as answer
 use Rattle.step.specs.Controller.{at}
 use Rattle.step.specs.Fetching.{fetched_by}
@@ -45,7 +46,7 @@ rests_alone false n w u x z z' e =
     let d = e ∙ of_one (board_of z) w (work_of (at (other w) u)) n 0 (work_of (at w u)) z in
     sym ((λ i. rested (other (d i).last.which) (d i).last.rests u) ∙ unrested (other w) u)
 
-pub does_units : (w : Which) (left : ℕ) (eop : Bool) (u : Controller) (both : Bool) (r : RequestMode) (limit : ℕ) (p : Pair) (board : Board) (x : Carried) (z z' : Spaces) (y : Controller) (s : Stepped)
+pub does_units : (w : Which) (left : ℕ) (eop : Bool) (u : Controller) (both : Bool) (r : RequestMode) (limit : ℕ) (p : Pair) (board : Board) (x : Carried) (z z' : Spaces) (y : Controller) (s : Done Answer)
     → both ≡ take_turns u → r ≡ request_mode_of (at w u).mode → limit ≡ limit_of both r left eop → p ≡ pair_of w u → board ≡ board_of z → carried_as x z' ≡ onwards board both (limit - 1) 0 p z
     → y ≡ cond both (rested (other x.which) x.rests u) u → s ≡ unit_of x.which eop y x.moved
     → record { last = outcome s z'; steps = x.units } ≡ stride_by (Unit w) left eop u z

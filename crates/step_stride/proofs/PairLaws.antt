@@ -2,8 +2,8 @@
 -- leave if the first had not been. Assumes nothing.
 use mathlib.Core.Path.{◌≡◌, refl, sym, ap, ◌∙◌}
 use mathlib.Core.Bool.{Bool, true, false, not, ◌&&◌, ◌||◌, true≢false}
-use Prim.Native.Nat.{ℕ, zero, suc}
-use lib.Dec.{eqb, eqb-suc-zero}
+use Rattle.std.specs.Prelude.{None, Option, Some, is_none}
+use Rattle.refusal.specs.declared.Refusal.{Refusal}
 use Rattle.port.specs.declared.Which.{Which}
 use Rattle.port.specs.declared.Which.TheVariants.{One, Two}
 use Rattle.word_mode.specs.declared.RequestMode.{RequestMode}
@@ -19,16 +19,13 @@ use Rattle.channel.specs.declared.Channel.{Channel}
 use Rattle.channel.specs.Candidate.{is_candidate, interleaves}
 use Rattle.channel_request.specs.Request.{requests}
 use Rattle.channel.specs.Ending.{reasons_of, moved_by, unended_by, unended, after_by, after_unit}
-use Rattle.step_bus.specs.declared.Bus.{Bus}
-use Rattle.step_bus.specs.declared.Bus.TheVariants.{Free, Kept}
-use Rattle.step_bus.specs.declared.Served.TheVariants.{Last}
 use Rattle.step_bus.specs.declared.Control.{Control}
-use Rattle.step_rules.specs.declared.Turn.TheVariants.{Whose}
 use Rattle.step_rules.specs.declared.Choice.TheVariants.{Unit}
 use Rattle.step_rules.specs.Rules.{is_enabled, is_interleaved, turn_by}
 use Rattle.step_bus.specs.After.{unended_control, control_by}
 use Rattle.step.specs.declared.Controller.{Controller}
-use Rattle.step.specs.declared.Stepped.{Stepped}
+use Rattle.step.specs.declared.Done.{Done}
+use Rattle.step.specs.declared.Answer.{Answer}
 use Rattle.step.specs.declared.Answer.TheVariants as answer
 use Rattle.step.specs.Set.{◌⟨control≔◌⟩}
 use Rattle.step.specs.Controller.{at, with}
@@ -80,9 +77,9 @@ in_turn u e =
     let two = both_true (interleaves u.two) _ c.1 in
     record { clear = not-true _ k.0; interleaved = each u interleaves one.0 two.0; ready = each u is_candidate one.1 two.1 }
 
-zero_of : (n : ℕ) → eqb n 0 ≡ true → n ≡ 0
-zero_of zero e = refl
-zero_of (suc n) e = absurd (true≢false (sym e ∙ eqb-suc-zero n))
+none_of : (r : Option Refusal) → is_none r ≡ true → r ≡ None
+none_of None e = refl
+none_of (Some r) e = absurd (true≢false (sym e))
 
 never : (b : Bool) → (b ≡ true → ⊥) → b ≡ false
 never true f = absurd (f refl)
@@ -106,7 +103,7 @@ fit true w u e =
     λ i. (both_true (not (at w u).pending) _ (t.interleaved w)).1 i && not (t.clear i)
 fit false w u e = e
 
-pub goes : (b : Board) (m : Moved) (next : Work) → follows b m next ≡ true → ((m.tc || m.compared.met) ≡ false) × (eqb (unit_refusal b next.mode next.set) 0 ≡ true)
+pub goes : (b : Board) (m : Moved) (next : Work) → follows b m next ≡ true → ((m.tc || m.compared.met) ≡ false) × (is_none (unit_refusal b next.mode next.set) ≡ true)
 goes b m next e = let k = both_true (not (m.tc || m.compared.met)) _ e in (not-true _ k.0, k.1)
 
 met_not : (m : Moved) → (m.tc || m.compared.met) ≡ false → m.compared.met ≡ false
@@ -118,13 +115,13 @@ met_not m e = go m.tc m.compared.met e
 
 -- ---- what an unended unit leaves
 
-abbrev left_by : Bus → Which → Control → Control
-left_by b w k = record { chain = k.chain; bus = b; note = k.note; served = Last w }
+abbrev left_by : Option Which → Which → Control → Control
+left_by b w k = record { chain = k.chain; bus = b; note = k.note; served = Some w }
 
 -- Two that take turns leave the bus free.
-abbrev bus_after : Bool → Which → Bus
-bus_after true w = Free
-bus_after false w = Kept w
+abbrev bus_after : Bool → Which → Option Which
+bus_after true w = None
+bus_after false w = Some w
 
 abbrev left : Bool → Which → Controller → Controller
 left both w u = u ⟨control≔ left_by (bus_after both w) w u.control ⟩
@@ -142,7 +139,7 @@ unfolding take_turns interleaves is_candidate moved_by at with
 turns_kept One u m = refl
 turns_kept Two u m = refl
 
-turn_on : (w : Which) → turn_by true true true (Last w) ≡ Whose (other w)
+turn_on : (w : Which) → turn_by true true true (Some w) ≡ Some (other w)
 turn_on One = refl
 turn_on Two = refl
 
@@ -151,7 +148,7 @@ other_twice One = refl
 other_twice Two = refl
 
 -- the bus and who was served are written anew by each unit
-same_control : (ends : Bool) (r : RequestMode) (cpu chains : Bool) (w : Which) (k : Control) (b : Bus) (s : Which)
+same_control : (ends : Bool) (r : RequestMode) (cpu chains : Bool) (w : Which) (k : Control) (b : Option Which) (s : Which)
     → control_by ends r cpu chains w (left_by b s k) ≡ control_by ends r cpu chains w k
 same_control true r cpu chains w k b s = refl
 same_control false Single cpu chains w k b s = refl
@@ -160,10 +157,10 @@ same_control false DemandRelease cpu chains w k b s = refl
 same_control false DemandInterleave cpu chains w k b s = refl
 
 -- what a unit leaves, if it leaves k of what belongs to no channel
-abbrev landed : Which → Controller → Moved → Control → Stepped
+abbrev landed : Which → Controller → Moved → Control → Done Answer
 landed x u n k = says (with x (after_unit x false n (at x u)).channel (u ⟨control≔ k ⟩)) (answer.Unit x (unit_answer n false))
 
-lands : (x : Which) (u : Controller) (n : Moved) (b : Bus) (s : Which)
+lands : (x : Which) (u : Controller) (n : Moved) (b : Option Which) (s : Which)
     → landed x u n (control_by (some (reasons_of n false)) (request_mode_of (at x u).mode) (is_interleaved u.master) (after_unit x false n (at x u)).chains x (left_by b s u.control))
     ≡ landed x u n (control_by (some (reasons_of n false)) (request_mode_of (at x u).mode) (is_interleaved u.master) (after_unit x false n (at x u)).chains x u.control)
 lands x u n b s = ap (landed x u n) (same_control (some (reasons_of n false)) (request_mode_of (at x u).mode) (is_interleaved u.master) (after_unit x false n (at x u)).chains x u.control b s)
@@ -218,10 +215,10 @@ module _ (w : Which) (u : Controller) (m : Moved) where
   flows_on false e = ap (λ (c : Channel). is_dedicated (request_mode_of c.mode)) (at_of w (moved_by m (at w u)) (left false w u)) ∙ e
 
   -- the next unit comes next
-  pub comes : (board : Board) (both : Bool) → flows both w u ≡ true → eqb (unit_refusal board (after both (pair_of w u) m).work.mode (after both (pair_of w u) m).work.set) 0 ≡ true
+  pub comes : (board : Board) (both : Bool) → flows both w u ≡ true → is_none (unit_refusal board (after both (pair_of w u) m).work.mode (after both (pair_of w u) m).work.set) ≡ true
       → choice board u ≡ Unit w → choice board (gone_by both w u m) ≡ Unit (after both (pair_of w u) m).which
   unfolding turn at moved_by unit_refusal
-  comes board both e n q = by_both both e (zero_of _ n)
+  comes board both e n q = by_both both e (none_of _ n)
     where
       c : Asks w u
       c = unit_asks board u w q
@@ -238,7 +235,7 @@ module _ (w : Which) (u : Controller) (m : Moved) where
       bus : (b : Bool) → (gone_by b w u m).control.bus ≡ bus_after b w
       bus b = ap (λ (x : Control). x.bus) (control_of w (moved_by m (at w u)) (left b w u))
 
-      by_both : (b : Bool) → flows b w u ≡ true → unit_refusal board (after b (pair_of w u) m).work.mode (after b (pair_of w u) m).work.set ≡ 0
+      by_both : (b : Bool) → flows b w u ≡ true → unit_refusal board (after b (pair_of w u) m).work.mode (after b (pair_of w u) m).work.set ≡ None
           → choice board (gone_by b w u m) ≡ Unit (after b (pair_of w u) m).which
       by_both true f r =
           let v = gone_by true w u m in

@@ -1,6 +1,7 @@
 -- A unit or a word that follows another is the step that comes next, and leaves what it leaves by itself. Assumes nothing.
 use mathlib.Core.Path.{◌≡◌, refl, sym, ap, ◌∙◌}
 use mathlib.Core.Bool.{Bool, true, false, ◌&&◌, ◌||◌, true≢false}
+use Rattle.std.specs.Prelude.{None, Option, Some}
 use Rattle.port.specs.declared.Which.{Which}
 use Rattle.port.specs.declared.Which.TheVariants.{One, Two}
 use Rattle.space.specs.Space.{Spaces}
@@ -15,10 +16,7 @@ use Rattle.channel.specs.Ending.{moved_by}
 use Rattle.word_reload.specs.declared.Stage.{Stage}
 use Rattle.word_reload.specs.declared.Stage.TheVariants.{Entries}
 use Rattle.word_reload.specs.declared.Progress.{Progress}
-use Rattle.word_reload.specs.declared.Next.{Next}
-use Rattle.word_reload.specs.declared.Next.TheVariants.{More, Complete}
 use Rattle.chain.specs.declared.Loaded.{Loaded}
-use Rattle.step_bus.specs.declared.Chain.TheVariants.{Of}
 use Rattle.step_bus.specs.declared.Control.{Control}
 use Rattle.step_rules.specs.declared.Choice.TheVariants.{Fetch, Unit}
 use Rattle.step_rules.specs.Rules.{is_enabled, is_interleaved}
@@ -70,7 +68,7 @@ enabled_for_lem b u w s (as_intended (begins_chain v t p) r) = t.calm.enabled
 
 module _ (w : Which) (u : Controller) (c : Channel) (p : Progress) where
   abbrev pub fetched_on : Controller
-  fetched_on = after_word w c (More p) u
+  fetched_on = after_word w c (Some p) u
 
   pub at_fetched : at w fetched_on ≡ c
   at_fetched = at_of w c _
@@ -78,25 +76,25 @@ module _ (w : Which) (u : Controller) (c : Channel) (p : Progress) where
   -- the next word comes next
   pub fetch_again : (b : Board) (s : Stage) → choice b u ≡ Fetch w s → choice b fetched_on ≡ Fetch w (Entries p)
   fetch_again b s e =
-      let v = u ⟨control≔ u.control ⟨chain≔ Of w (Entries p) ⟩ ⟩ in
+      let v = u ⟨control≔ u.control ⟨chain≔ Some (w, Entries p) ⟩ ⟩ in
       let on = ap is_enabled (master_of w c v) ∙ enabled_for_lem b u w s (chosen_at b u e) in
       chooses b fetched_on (as_intended (goes_on_by_rule w (Entries p) on (ap (λ (k : Control). k.chain) (control_of w c v))) refl)
 
   -- a further word leaves the same as if this one had not been
   pub fetch_joins : (n : Loaded) → fetched_by w n fetched_on ≡ fetched_by w n u
   fetch_joins n =
-      let k = control_of w c (u ⟨control≔ u.control ⟨chain≔ Of w (Entries p) ⟩ ⟩) in
-      let m = master_of w c (u ⟨control≔ u.control ⟨chain≔ Of w (Entries p) ⟩ ⟩) in
+      let k = control_of w c (u ⟨control≔ u.control ⟨chain≔ Some (w, Entries p) ⟩ ⟩) in
+      let m = master_of w c (u ⟨control≔ u.control ⟨chain≔ Some (w, Entries p) ⟩ ⟩) in
       let act = requests n.channel.mode n.channel.line in
       (λ i. record { state = with w n.channel (fetched_on ⟨control≔ control_fetched n.next (is_interleaved (m i)) act w (k i) ⟩); answer = answer.Fetched w (record { upper = n.upper }) })
       ∙ (λ i. record { state = with w n.channel (fetched_on ⟨control≔ same_fetch n.next (is_interleaved u.master) act i ⟩); answer = answer.Fetched w (record { upper = n.upper }) })
-      ∙ (λ i. record { state = with_again w c n.channel u (u.control ⟨chain≔ Of w (Entries p) ⟩) (control_fetched n.next (is_interleaved u.master) act w u.control) i; answer = answer.Fetched w (record { upper = n.upper }) })
+      ∙ (λ i. record { state = with_again w c n.channel u (u.control ⟨chain≔ Some (w, Entries p) ⟩) (control_fetched n.next (is_interleaved u.master) act w u.control) i; answer = answer.Fetched w (record { upper = n.upper }) })
     where
-      same_fetch : (x : Next) (cpu act : Bool) → control_fetched x cpu act w (u.control ⟨chain≔ Of w (Entries p) ⟩) ≡ control_fetched x cpu act w u.control
-      same_fetch (More q) cpu act = refl
-      same_fetch Complete true act = refl
-      same_fetch Complete false true = refl
-      same_fetch Complete false false = refl
+      same_fetch : (x : Option Progress) (cpu act : Bool) → control_fetched x cpu act w (u.control ⟨chain≔ Some (w, Entries p) ⟩) ≡ control_fetched x cpu act w u.control
+      same_fetch (Some q) cpu act = refl
+      same_fetch None true act = refl
+      same_fetch None false true = refl
+      same_fetch None false false = refl
 
 -- ---- one step
 

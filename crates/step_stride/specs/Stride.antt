@@ -18,7 +18,8 @@ use Rattle.step_rules.specs.declared.Choice.{Choice}
 use Rattle.step_rules.specs.declared.Choice.TheVariants.{Disabled, Refused, Fetch, GiveBack, Unit, Hold, Release, Idle}
 use Rattle.step_rules.specs.Rules.{is_interleaved}
 use Rattle.step.specs.declared.Controller.{Controller}
-use Rattle.step.specs.declared.Stepped.{Stepped}
+use Rattle.step.specs.declared.Done.{Done}
+use Rattle.step.specs.declared.Answer.{Answer}
 use Rattle.step.specs.declared.Ran.{Ran}
 use Rattle.step.specs.Controller.{at, with}
 use Rattle.space_board.specs.Board.{board_of}
@@ -26,7 +27,7 @@ use Rattle.step.specs.Choice.{choice}
 use Rattle.step.specs.Fetching.{fetched_by, drop_of}
 use Rattle.step.specs.Step.{Outcome, outcome, RunOutcome, ran_as, work_of, unit_of, perform_of}
 
-abbrev pub once : Stepped → Ran
+abbrev pub once : Done Answer → Ran
 once s = record { state = s.state; answer = s.answer; steps = 1 }
 
 -- ---- units that follow each other
@@ -73,7 +74,7 @@ single o = record { last = o; steps = 1 }
 
 unfoldable pub stride_by : Choice → ℕ → Bool → Controller → Spaces → RunOutcome
 stride_by Disabled left eop u z = single (perform_of Disabled eop u z)
-stride_by (Refused n) left eop u z = single (perform_of (Refused n) eop u z)
+stride_by (Refused r) left eop u z = single (perform_of (Refused r) eop u z)
 stride_by (Fetch w stage) left eop u z = ran_as (fetches_by eop w stage left u z.memory) z
 stride_by GiveBack left eop u z = single (perform_of GiveBack eop u z)
 stride_by (Unit w) left eop u z =

@@ -16,6 +16,7 @@ pub fn step_size(memory: bool, w: Width) -> u32
     }
 }
 
+// A number and no enum of directions, though the definition has one: tried, and a transfer takes 161 instructions in a run for 139.
 // By how much an address rises at a step of its field: a step down is a rise by the rest of a whole turn.
 fn rise_of(field: u16, by: u32) -> u32
     requires { by ≤ 2 }

@@ -1,16 +1,19 @@
--- Laws of what is put at a text's end. Assumes nothing.
-use Prim.Native.Nat.{ℕ, zero, suc, ◌+◌, ◌-◌, ◌/◌, ◌%◌, ◌<◌, ◌≤◌}
-use mathlib.Core.Path.{◌≡◌, refl, ap, sym}
+-- Laws of what is put at a text's end, and of a number's digits. Assumes nothing.
+use Prim.Native.Nat.{ℕ, zero, suc, ◌+◌, ◌-◌, ◌/◌, ◌%◌, ◌^◌, ◌<◌, ◌≤◌}
+use mathlib.Core.Path.{◌≡◌, refl, ap}
+use mathlib.Core.Logic.{inl, inr}
 use mathlib.Core.List.{List, [], ◌∷◌, ◌++◌, append_assoc, append-nil}
 use native.Mathlib.Omega.{arith}
-use lib.ListN.{length, take, drop, set, length-take, length-append}
-use Rattle.std.proofs.lemmas.List.{drop-set}
-use lib.Seq.{take_all, take-suc-set, take_at}
-use native.Mathlib.Numerals.{add-one}
-use native.Mathlib.Nat.{lt_of_not-le}
+use native.Mathlib.Nat.{pow-suc, sub-zero, min-le_left}
+use lib.ListN.{length, take, length-take}
+use lib.Seq.{take_all}
 use borrow.Author.Tests.{lt-ltb, le-ltb}
-use Rattle.text_print.specs.declared.Text.{Text}
-use Rattle.text_print.specs.Text.{written, appended, digits_of}
+use Rattle.std.specs.Prelude.{min, decimal}
+use Rattle.std.proofs.lemmas.Bool.{cases_lt}
+use Rattle.std.proofs.lemmas.List.{take_min}
+use Rattle.std.proofs.lemmas.Fmt.{decimal_digit, decimal_step}
+use Rattle.text_print.specs.declared.text.Text.{Text}
+use Rattle.text_print.specs.Text.{written, appended, digits_of, decimal_of}
 
 cut_twice : (n : ℕ) (a b : List ℕ) → take n (take n a ++ b) ≡ take n (a ++ b)
 cut_twice zero a b = refl
@@ -23,41 +26,40 @@ unfolding appended
 twice w a b = rw (← append_assoc w a b) (cut_twice 96 (w ++ a) b)
 
 -- a text holds no more than its room
-pub room : (t : Text) → length t.bytes ≡ 96 → appended (written t) [] ≡ written t
+pub room : (t : Text) → appended (written t) [] ≡ written t
 unfolding appended written
-room t h = rw append-nil (take_all 96 (take t.length t.bytes) (simp length-take (omega arith)))
+room t = rw append-nil (take_all 96 t.bytes.items t.fits)
 
--- a byte is put in its place, and lost where there is no place
-pub byte_put : (t : Text) (b : ℕ) → length t.bytes ≡ 96 → t.length < 96
-    → written (record { bytes = set t.bytes t.length b; length = t.length + 1 }) ≡ appended (written t) (b ∷ [])
-unfolding appended written
-byte_put t b l h =
-    let i : t.length < length t.bytes = omega arith in
-    rw (add-one, take-suc-set t.bytes t.length b i)
-    (sym (take_all 96 (take t.length t.bytes ++ b ∷ []) (simp (length-append, length-take) (omega arith))))
+filled_to : (n : ℕ) (held s : List ℕ) → length held ≤ n → held ++ take (n - length held) s ≡ take n (held ++ s)
+filled_to n [] s h = rw (sub-zero n)
+filled_to (suc n) (x ∷ held) s h =
+    let e : suc n - suc (length held) ≡ n - length held = omega arith in
+    rw e (ap (λ (l : List ℕ). x ∷ l) (filled_to n held s (omega arith)))
+filled_to zero (x ∷ held) s h = absurd (omega arith)
 
-pub byte_lost : (t : Text) (b : ℕ) → length t.bytes ≡ 96 → 96 ≤ t.length → written t ≡ appended (written t) (b ∷ [])
-unfolding appended written
-byte_lost t b l h =
-    let i : length t.bytes ≤ t.length = omega arith in
-    rw (take_all t.length t.bytes i) (sym (take_at t.bytes (b ∷ []) 96 l))
+-- as much as there is room for
+pub filled : (held s : List ℕ) (r : ℕ) → r + length held ≡ 96 → held ++ take (min r (length s)) s ≡ appended held s
+unfolding appended
+filled held s r e =
+    let is : r ≡ 96 - length held = omega arith in
+    rw (take_min r s, is) (filled_to 96 held s (omega arith))
 
--- a number's last digit stands before those that stand already, with others before it or with none
-module _ (held : List ℕ) (n : ℕ) where
-  pub digit_on : (k : ℕ) → 0 < k → k < length held → 10 ≤ n
-      → digits_of k n ++ drop (k + 1) held ≡ digits_of (k - 1) (n / 10) ++ drop (k - 1 + 1) (set held k (48 + n % 10))
-  unfolding digits_of
-  digit_on zero p below h = absurd (omega arith)
-  digit_on (suc k) p below h =
-      let e : suc k - 1 ≡ k = omega arith in
-      let f : k + 1 ≡ suc k = omega arith in
-      rw (le-ltb n 10 h, e, f, append_assoc, drop-set held (suc k) (48 + n % 10) below)
+pub fits : (held s : List ℕ) (r : ℕ) → r + length held ≡ 96 → length held + length (take (min r (length s)) s) ≤ 96
+fits held s r e = rw take_min (omega (arith, length-take r s, min-le_left r (length s)))
 
-  pub digit_first : (k : ℕ) → k < length held → (10 ≤ n → 0 < k → ⊥)
-      → digits_of k n ++ drop (k + 1) held ≡ drop k (set held k (48 + n % 10))
-  unfolding digits_of
-  digit_first zero below h = rw (drop-set held 0 (48 + n % 10) below)
-  digit_first (suc k) below h =
-      let l : n < 10 = lt_of_not-le (λ g. h g (omega arith)) in
-      let e : n % 10 ≡ n = omega arith in
-      rw (lt-ltb n 10 l, drop-set held (suc k) (48 + n % 10) below, e)
+-- a number's digits are std's
+digits_are : (k n : ℕ) → n < 2 ^ 64 → n < 10 ^ suc k → decimal n ≡ digits_of k n
+unfolding digits_of
+digits_are zero n h small =
+    let e : n % 10 ≡ n = omega arith in
+    rw e (decimal_digit n (omega arith))
+digits_are (suc k) n h small = elim (cases_lt n 10) [
+  | inr l ↦
+      let fewer : n / 10 < 10 ^ suc k = omega (arith, pow-suc 10 (suc k)) in
+      rw (le-ltb n 10 l, decimal_step n l h, digits_are k (n / 10) (omega arith) fewer)
+  | inl l ↦ rw (lt-ltb n 10 l, decimal_digit n l)
+]
+
+pub decimal_is : (n : ℕ) → n < 2 ^ 64 → decimal n ≡ decimal_of n
+unfolding decimal_of
+decimal_is n h = digits_are 19 n h (omega arith)

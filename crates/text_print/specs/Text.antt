@@ -3,7 +3,7 @@ use Rattle.std.specs.Prelude.{ℕ, zero, suc, ◌+◌, ◌/◌, ◌%◌, Bool, t
 use Rattle.text_scan.specs.Words.{bytes}
 use Rattle.port.specs.declared.Which.{Which}
 use Rattle.port.specs.declared.Which.TheVariants.{One, Two}
-use Rattle.text_print.specs.declared.Text.{Text}
+use Rattle.text_print.specs.declared.text.Text.{Text}
 
 -- parts one after the other
 infixr 55 ◌⧺◌
@@ -12,7 +12,7 @@ a ⧺ b = a ++ b
 
 -- the bytes that a text holds
 unfoldable pub written : Text → List ℕ
-written t = take t.length t.bytes
+written t = t.bytes.items
 
 -- bytes with more behind them, cut at the 96 that a text has room for
 unfoldable pub appended : List ℕ → List ℕ → List ℕ

@@ -1,17 +1,15 @@
-// A line in the making, and the numbers in it.
+// A line in the making, none as long as 96 bytes, and the numbers in it.
 #![tactic(auto)]
 
-ghost use Rattle.std.specs.Prelude.{◌≡◌, [], ◌∷◌, ◌<◌};
+ghost use Rattle.std.specs.Prelude.{◌≡◌, [], ◌<◌};
 ghost use Rattle.text_print.specs.Text.{written, appended, glyph_of, hex2_of, hex4_of, hex6_of, decimal_of, bit_of, channel_of, line};
 
-use port::Which;
+mod text;
 
-// None is as long as 96 bytes.
-#[derive(Drop)]
-pub struct Text {
-    pub bytes: [u8; 96],
-    pub length: usize,
-}
+use arrayvec::ArrayVec;
+use itoa::Buffer;
+use port::Which;
+pub use text::Text;
 
 fn glyph(d: u8) -> u8
     requires { d < 16 }
@@ -28,8 +26,7 @@ pub fn empty() -> Text
     ensures { written result ≡ [] }
 {
     Text {
-        bytes: [0; 96],
-        length: 0,
+        bytes: ArrayVec::new(),
     }
 }
 
@@ -41,36 +38,29 @@ pub fn of(s: &[u8]) -> Text
 }
 
 impl Text {
-    #[tactic(auto, using(crate::proofs::Laws::byte_put, crate::proofs::Laws::byte_lost))]
-    fn byte(mut self, b: u8) -> Text
-        ensures { written result ≡ appended (written self) (b ∷ []) }
+    // A byte that there is no room for is lost.
+    #[tactic(auto, using(crate::proofs::Laws::filled, crate::proofs::Laws::fits), unfolding(crate::specs::Text::written))]
+    pub fn with(mut self, s: &[u8]) -> Text
+        ensures { written result ≡ appended (written self) s.now }
     {
-        let at = self.length;
-        if at < 96 {
-            self.bytes[at] = b;
-            self.length = at + 1;
-        }
+        let n = self.bytes.remaining_capacity().min(s.len());
+        self.bytes.try_extend_from_slice(&s[..n]).unwrap();
         self
     }
 
-    #[tactic(auto, using(crate::proofs::Laws::room, crate::proofs::Laws::twice))]
-    pub fn with(self, s: &[u8]) -> Text
-        ensures { written result ≡ appended (written self) s.now }
+    #[tactic(auto, unfolding(crate::specs::Text::written))]
+    pub fn as_bytes(&self) -> &[u8]
+        ensures { result.now ≡ written self.now }
     {
-        let mut t = self;
-        let mut i = 0;
-        while i < s.len() {
-            t = t.byte(s[i]);
-            i += 1;
-        }
-        t
+        self.bytes.as_slice()
     }
 
-    #[tactic(auto, using(crate::proofs::Laws::twice), unfolding(crate::specs::Text::hex2_of))]
+    // HH, HHHH and AAAAAA, each by the one before: one function of the number of digits would take any number, and have no type to say how large.
+    #[tactic(auto, unfolding(crate::specs::Text::hex2_of))]
     pub fn hex2(self, b: u8) -> Text
         ensures { written result ≡ appended (written self) (hex2_of b) }
     {
-        self.byte(glyph(b / 16)).byte(glyph(b % 16))
+        self.with(&[glyph(b / 16), glyph(b % 16)])
     }
 
     #[tactic(auto, using(crate::proofs::Laws::twice), unfolding(crate::specs::Text::hex4_of))]
@@ -87,30 +77,19 @@ impl Text {
         self.hex2((a / 65536 % 256) as u8).hex4((a % 65536) as u16)
     }
 
+    #[tactic(auto, using(crate::proofs::Laws::decimal_is))]
     pub fn decimal(self, n: u64) -> Text
         ensures { written result ≡ appended (written self) (decimal_of n) }
     {
-        // Twenty digits hold any number: the first one is never behind the array.
-        let mut digits = [0u8; 20];
-        let mut at = 19;
-        let mut left = n;
-        while 10 <= left && 0 < at {
-            digits[at] = b'0' + (left % 10) as u8;
-            left /= 10;
-            at -= 1;
-        }
-        digits[at] = b'0' + (left % 10) as u8;
-        self.with(&digits[at..])
+        let mut digits = Buffer::new();
+        self.with(digits.format(n).as_bytes())
     }
 
     #[tactic(auto, unfolding(crate::specs::Text::bit_of))]
     pub fn bit(self, b: bool) -> Text
         ensures { written result ≡ appended (written self) (bit_of b) }
     {
-        if b {
-            return self.byte(b'1');
-        }
-        self.byte(b'0')
+        if b { self.with(b"1") } else { self.with(b"0") }
     }
 
     #[tactic(auto, unfolding(crate::specs::Text::channel_of))]
@@ -118,8 +97,8 @@ impl Text {
         ensures { written result ≡ appended (written self) (channel_of w) }
     {
         match w {
-            Which::One => self.byte(b'1'),
-            Which::Two => self.byte(b'2'),
+            Which::One => self.with(b"1"),
+            Which::Two => self.with(b"2"),
         }
     }
 }

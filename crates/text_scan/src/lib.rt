@@ -1,239 +1,134 @@
-// The words of a line, and the numbers among them. A part is written `s[0..n]`, of which the check knows the length.
+// The words of a line, and the numbers among them.
 #![tactic(auto)]
 
-ghost use Rattle.std.specs.Prelude.{◌≡◌, ◌≤◌, length, drop};
-ghost use Rattle.text_scan.specs.Words.{is_blank, is_of, leading_of, code_of, first_of, rest_of, same_of};
-ghost use Rattle.text_scan.specs.Numbers.{worth_of, is_digit, with_digit, number_of, hex_of, up_to_255};
-
-// What is counted at the start of a text.
-#[derive(Clone, Copy)]
-pub enum Kind {
-    Blank,
-    Word,
-    Code,
-}
+ghost use Rattle.std.specs.Prelude.{◌≡◌, ◌<◌, ◌≤◌, length, IfSome};
+ghost use Rattle.text_scan.specs.Words.{is_blank, is_word, is_code, leading_of, past_of, code_of, first_of, rest_of};
+ghost use Rattle.text_scan.specs.Numbers.{digit_of, with_digit, number_of, hex_of, up_to_255};
 
 #[tactic(auto, unfolding(crate::specs::Words::is_blank))]
 fn is_blank(b: u8) -> bool
     ensures { result ≡ is_blank b }
 {
-    (b == b' ') | (b == b'\t') | (b == b'\r')
+    matches!(b, b' ' | b'\t' | b'\r')
 }
 
-#[tactic(auto, unfolding(crate::specs::Words::is_of))]
-fn is_of(kind: Kind, b: u8) -> bool
-    ensures { result ≡ is_of kind b }
+// Each chain stands in a function of its own, whose contract says what it counts.
+
+fn blanks(s: &[u8]) -> usize
+    ensures value { result ≡ leading_of is_blank s.now }
+    ensures fits { result ≤ length s.now }
 {
-    match kind {
-        Kind::Blank => is_blank(b),
-        Kind::Word => !is_blank(b),
-        Kind::Code => b != b'#',
-    }
+    s.iter().take_while(|b| is_blank(**b)).count()
 }
 
-// How many bytes of a kind a text starts with.
-#[tactic(auto, using(crate::proofs::Laws::leading_on, crate::proofs::Laws::leading_ends, crate::proofs::Laws::leading_none))]
-fn leading(kind: Kind, s: &[u8]) -> usize
-    ensures { (result ≤ length s.now) × (result ≡ leading_of kind s.now) }
+#[tactic(auto, unfolding(crate::specs::Words::is_word))]
+fn word_length(s: &[u8]) -> usize
+    ensures value { result ≡ leading_of is_word s.now }
+    ensures fits { result ≤ length s.now }
 {
-    let mut i = 0;
-    while i < s.len() {
-        if !is_of(kind, s[i]) {
-            return i;
-        }
-        i += 1;
-    }
-    i
+    s.iter().take_while(|b| !is_blank(**b)).count()
+}
+
+#[tactic(auto, unfolding(crate::specs::Words::is_code))]
+fn code_length(line: &[u8]) -> usize
+    ensures value { result ≡ leading_of is_code line.now }
+    ensures fits { result ≤ length line.now }
+{
+    line.iter().take_while(|b| **b != b'#').count()
+}
+
+fn past_blanks(s: &[u8]) -> &[u8]
+    ensures { result.now ≡ past_of is_blank s.now }
+{
+    let n = blanks(s);
+    &s[n..]
 }
 
 // A line without its comment, from its first word on.
-#[tactic(auto, using(facts::proofs::Lists::all_left), unfolding(crate::specs::Words::code_of, crate::specs::Words::past_of, crate::specs::Words::start_of))]
+#[tactic(auto, unfolding(crate::specs::Words::code_of))]
 pub fn code(line: &[u8]) -> &[u8]
     ensures { result.now ≡ code_of line.now }
 {
-    let end = leading(Kind::Code, line);
-    let s = &line[0..end];
-    let n = leading(Kind::Blank, s);
-    &s[n..]
+    let n = code_length(line);
+    past_blanks(&line[..n])
 }
 
 // The word that a text starts with.
-#[tactic(auto, unfolding(crate::specs::Words::first_of, crate::specs::Words::start_of))]
+#[tactic(auto, unfolding(crate::specs::Words::first_of))]
 pub fn first(s: &[u8]) -> &[u8]
     ensures { result.now ≡ first_of s.now }
 {
-    let n = leading(Kind::Word, s);
-    &s[0..n]
-}
-
-// How many bytes stand before the second word.
-#[tactic(auto, using(facts::proofs::Lists::all_left), unfolding(crate::specs::Words::past_of, crate::specs::Words::rest_of))]
-pub fn past_first(s: &[u8]) -> usize
-    ensures { (result ≤ length s.now) × (drop result s.now ≡ rest_of s.now) }
-{
-    let n = leading(Kind::Word, s);
-    n + leading(Kind::Blank, &s[n..])
+    let n = word_length(s);
+    &s[..n]
 }
 
 // What follows the first word, from the next word on.
-#[tactic(auto, using(facts::proofs::Lists::all_left))]
+#[tactic(auto, unfolding(crate::specs::Words::rest_of))]
 pub fn rest(s: &[u8]) -> &[u8]
     ensures { result.now ≡ rest_of s.now }
 {
-    let n = past_first(s);
-    &s[n..]
+    let n = word_length(s);
+    past_blanks(&s[n..])
 }
 
-#[tactic(auto, using(crate::proofs::Laws::same_on, crate::proofs::Laws::same_ends, crate::proofs::Laws::same_none, crate::proofs::Laws::same_length))]
-pub fn same(a: &[u8], b: &[u8]) -> bool
-    ensures { result ≡ same_of a.now b.now }
+#[tactic(auto, unfolding(crate::specs::Numbers::worth_of, crate::specs::Numbers::digit_of))]
+fn digit<const RADIX: u32>(b: u8) -> Option<u32>
+    requires { (2 ≤ RADIX) × (RADIX ≤ 16) }
+    ensures value { result ≡ digit_of RADIX b }
+    ensures fits { IfSome result (λ d. d < RADIX) }
 {
-    if a.len() != b.len() {
-        return false;
-    }
-    let mut i = 0;
-    while i < a.len() {
-        if a[i] != b[i] {
-            return false;
-        }
-        i += 1;
-    }
-    true
-}
-
-#[derive(Clone, Copy)]
-pub enum Number {
-    Of(u32),
-    Unreadable,
-}
-
-#[derive(Clone, Copy)]
-pub enum Base {
-    Ten,
-    Sixteen,
-}
-
-// A digit's worth in either base; 255 where the byte is none.
-#[tactic(auto, unfolding(crate::specs::Numbers::worth_of))]
-fn worth(b: u8) -> u8
-    ensures { result ≡ worth_of b }
-{
-    if b < b'0' {
-        return 255;
-    }
-    if b <= b'9' {
-        return b - b'0';
-    }
-    if b < b'A' {
-        return 255;
-    }
-    if b <= b'F' {
-        return b - b'A' + 10;
-    }
-    if b < b'a' {
-        return 255;
-    }
-    if b <= b'f' {
-        return b - b'a' + 10;
-    }
-    255
-}
-
-#[tactic(auto, unfolding(crate::specs::Numbers::is_digit))]
-fn is_digit(base: Base, d: u8) -> bool
-    ensures { result ≡ is_digit base d }
-{
-    match base {
-        Base::Ten => d < 10,
-        Base::Sixteen => d < 16,
-    }
+    (b as char).to_digit(RADIX)
 }
 
 // A number beyond 100,000,000 is above every limit and takes no more digits.
-#[tactic(auto, unfolding(crate::specs::Numbers::shifted, crate::specs::Numbers::with_digit))]
-fn with_digit(value: u32, base: Base, d: u8) -> u32
-    ensures { result ≡ with_digit value base d }
+#[tactic(auto, unfolding(crate::specs::Numbers::with_digit))]
+fn with_digit<const RADIX: u32>(value: u32, d: u32) -> u32
+    requires { (RADIX ≤ 16) × (d < RADIX) }
+    ensures { result ≡ with_digit value RADIX d }
 {
     if 100_000_000 < value {
         return value;
     }
-    match base {
-        Base::Ten => value * 10 + d as u32,
-        Base::Sixteen => value * 16 + d as u32,
-    }
+    value * RADIX + d
 }
 
 #[tactic(auto, using(crate::proofs::Laws::digit_on, crate::proofs::Laws::digit_ends, crate::proofs::Laws::digit_none, crate::proofs::Laws::number_none, crate::proofs::Laws::number_some))]
-fn digits_of(base: Base, s: &[u8]) -> Number
-    ensures { result ≡ number_of base s.now }
+fn number<const RADIX: u32>(s: &[u8]) -> Option<u32>
+    requires { (2 ≤ RADIX) × (RADIX ≤ 16) }
+    ensures { result ≡ number_of RADIX s.now }
 {
-    if s.len() == 0 {
-        return Number::Unreadable;
+    if s.is_empty() {
+        return None;
     }
-    let mut value: u32 = 0;
-    let mut i = 0;
-    while i < s.len() {
-        let d = worth(s[i]);
-        if !is_digit(base, d) {
-            return Number::Unreadable;
-        }
-        value = with_digit(value, base, d);
-        i += 1;
+    let mut value = 0;
+    for b in s {
+        value = with_digit::<RADIX>(value, digit::<RADIX>(*b)?);
     }
-    Number::Of(value)
+    Some(value)
 }
 
-// A hexadecimal number of at most so many digits.
+// A hexadecimal number of at most so many digits, as HH, HHHH and AAAAAA of the console's language.
 #[tactic(auto, unfolding(crate::specs::Numbers::hex_of))]
-fn hexadecimal(s: &[u8], digits: usize) -> Number
-    ensures { result ≡ hex_of digits s.now }
+pub fn hexadecimal<const DIGITS: usize>(s: &[u8]) -> Option<u32>
+    ensures { result ≡ hex_of DIGITS s.now }
 {
-    if digits < s.len() {
-        return Number::Unreadable;
+    if DIGITS < s.len() {
+        return None;
     }
-    digits_of(Base::Sixteen, s)
-}
-
-// HH, HHHH and AAAAAA of the console's language.
-pub fn byte(s: &[u8]) -> Number
-    ensures { result ≡ hex_of 2 s.now }
-{
-    hexadecimal(s, 2)
-}
-
-pub fn word(s: &[u8]) -> Number
-    ensures { result ≡ hex_of 4 s.now }
-{
-    hexadecimal(s, 4)
-}
-
-pub fn address(s: &[u8]) -> Number
-    ensures { result ≡ hex_of 6 s.now }
-{
-    hexadecimal(s, 6)
+    number::<16>(s)
 }
 
 // A decimal of any length.
-pub fn decimal(s: &[u8]) -> Number
-    ensures { result ≡ number_of Base.Ten s.now }
+pub fn decimal(s: &[u8]) -> Option<u32>
+    ensures { result ≡ number_of 10 s.now }
 {
-    digits_of(Base::Ten, s)
+    number::<10>(s)
 }
 
 // C of the console's language: a decimal up to 255.
 #[tactic(auto, unfolding(crate::specs::Numbers::up_to_255))]
-pub fn channel(s: &[u8]) -> Number
-    ensures { result ≡ up_to_255 (number_of Base.Ten s.now) }
+pub fn channel(s: &[u8]) -> Option<u8>
+    ensures { result ≡ up_to_255 (number_of 10 s.now) }
 {
-    let n = decimal(s);
-    match n {
-        Number::Unreadable => Number::Unreadable,
-        Number::Of(c) => {
-            if c < 256 {
-                Number::Of(c)
-            } else {
-                Number::Unreadable
-            }
-        }
-    }
+    u8::try_from(decimal(s)?).ok()
 }

@@ -1,6 +1,8 @@
 -- Document 01, "Moving a unit" and refusals 7 and 8: what a unit makes of its channel's registers and of the spaces. Assumes nothing.
-use Rattle.std.specs.Prelude.{ℕ, Bool, false, not, cond, ◌||◌, List, [], ◌∷◌}
-use Rattle.facts.specs.First.{first_of}
+use Rattle.std.specs.Prelude.{ℕ, Bool, false, not, cond, ◌||◌, List, [], ◌∷◌, Option}
+use Rattle.facts.specs.First.{first_some}
+use Rattle.refusal.specs.declared.Refusal.{Refusal}
+use Rattle.refusal.specs.declared.Refusal.TheVariants.{NotCarried, OddWord}
 use Rattle.space.specs.declared.Width.{Width}
 use Rattle.space.specs.declared.Width.TheVariants.{Byte, Word}
 use Rattle.space.specs.Space.{Spaces}
@@ -35,11 +37,11 @@ unfoldable pub odd_word : Moves → Bool → Set → Bool
 odd_word m flip s = some_odd (reads_of m flip s) || some_odd (writes_of m flip s)
 
 -- 7: operation 2, 3, 6, 7, A or B. 8: a word side at an odd address that it uses. No rule of document 01 looks at the board.
-abbrev pub unit_refusals : Board → Mode → Set → List (Bool × ℕ)
-unit_refusals b m s = (not (carried (operation_of m)), 7) ∷ (odd_word (operation_of m).moves (is_flipped m) s, 8) ∷ []
+abbrev pub unit_refusals : Board → Mode → Set → List (Bool × Refusal)
+unit_refusals b m s = (not (carried (operation_of m)), NotCarried) ∷ (odd_word (operation_of m).moves (is_flipped m) s, OddWord) ∷ []
 
-unfoldable pub unit_refusal : Board → Mode → Set → ℕ
-unit_refusal b m s = first_of (unit_refusals b m s)
+unfoldable pub unit_refusal : Board → Mode → Set → Option Refusal
+unit_refusal b m s = first_some (unit_refusals b m s)
 
 -- ---- the registers
 

@@ -6,6 +6,7 @@ ghost use Rattle.space.specs.Space.{spaces};
 ghost use Rattle.unit_comparison.specs.Comparison.{comparison};
 ghost use Rattle.unit.specs.Unit.{odd_at, odd_word, unit_refusal, whole, worked};
 
+use refusal::Refusal;
 use space::Width;
 use space_board::Board;
 use unit_comparison::Compared;
@@ -57,18 +58,18 @@ fn is_odd_word(moves: Moves, flip: bool, s: Set) -> bool
     }
 }
 
-// The number by which a unit is refused, or 0.
+// What a unit is refused by, if by anything.
 #[tactic(auto, unfolding(crate::specs::Unit::unit_refusal))]
-pub fn unit_refusal(board: Board, mode: Mode, s: Set) -> u8
+pub fn unit_refusal(board: Board, mode: Mode, s: Set) -> Option<Refusal>
     ensures { result ≡ unit_refusal board mode s }
 {
     let o = mode.operation();
     let moves = o.moves;
     let odd = is_odd_word(moves, mode.is_flipped(), s);
     if o.carried {
-        if odd { 8 } else { 0 }
+        if odd { Some(Refusal::OddWord) } else { None }
     } else {
-        7
+        Some(Refusal::NotCarried)
     }
 }
 

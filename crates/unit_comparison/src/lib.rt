@@ -31,6 +31,7 @@ fn differing(datum: u16, pattern: u16, mask: u16) -> u16
     (datum ^ pattern) & !mask
 }
 
+// Match control stays its field's number: document 01, E2 and demand 2 state both tests on it, and an enum of its codes would ask the same two.
 // Match control 3 takes either half for a match, the others both.
 fn is_hit(control: u16, high: bool, low: bool) -> bool
     ensures { result ≡ is_hit control high low }

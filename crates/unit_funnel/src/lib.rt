@@ -25,5 +25,5 @@ pub fn first_half(high: bool, word: u16) -> u16
 pub fn second_half(high: bool, word: u16) -> u16
     ensures { result ≡ second_half high word }
 {
-    if high { word % 256 } else { word / 256 }
+    first_half(!high, word)
 }

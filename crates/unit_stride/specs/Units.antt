@@ -1,6 +1,6 @@
 -- Units that follow each other with nothing between them, of one channel or of two that take turns: each is a unit of document 01,
 -- "Moving a unit". Assumes nothing.
-use Rattle.std.specs.Prelude.{ℕ, Bool, true, false, not, cond, ◌&&◌, ◌||◌, eqb}
+use Rattle.std.specs.Prelude.{ℕ, Bool, true, false, not, cond, ◌&&◌, ◌||◌, is_none}
 use Rattle.facts.specs.Rows.{Row, Repeats, in_a_row}
 use Rattle.space.specs.Space.{Spaces}
 use Rattle.space_board.specs.declared.Board.{Board}
@@ -32,7 +32,7 @@ onward w m = record { set = m.set; mode = w.mode; pattern = w.pattern; mask = w.
 
 -- The unit does not end its operation, and the next is not refused by 8.
 abbrev pub follows : Board → Moved → Work → Bool
-follows b m next = not (m.tc || m.compared.met) && eqb (unit_refusal b next.mode next.set) 0
+follows b m next = not (m.tc || m.compared.met) && is_none (unit_refusal b next.mode next.set)
 
 -- ---- of one channel
 

@@ -43,12 +43,7 @@ pub struct Carried {
 fn is_dedicated(mode: RequestMode) -> bool
     ensures { result ≡ is_dedicated mode }
 {
-    match mode {
-        RequestMode::Single => false,
-        RequestMode::DemandHold => true,
-        RequestMode::DemandRelease => true,
-        RequestMode::DemandInterleave => false,
-    }
+    matches!(mode, RequestMode::DemandHold | RequestMode::DemandRelease)
 }
 
 // Of so many steps, how many may be units that follow each other; EOP ends the first.
@@ -91,7 +86,7 @@ fn pass(p: Pair, m: Moved) -> Pair
 fn follows(board: Board, m: Moved, next: Work) -> bool
     ensures { result ≡ follows board m next }
 {
-    !(m.tc | m.compared.met) & (unit::unit_refusal(board, next.mode, next.set) == 0)
+    !(m.tc | m.compared.met) & unit::unit_refusal(board, next.mode, next.set).is_none()
 }
 
 // ---- what the registers after a unit tell of its steps
@@ -158,6 +153,7 @@ fn move_on(board: Board, w: Work, limit: u32, memory: &mut [u8], io: &mut [u8]) 
     };
     let mut units: u32 = 0;
     let mut going = true;
+    // No for: a unit is done whatever the limit, and the count is the answer.
     while going {
         moved = unit::carry(work, memory, io);
         units += 1;
@@ -199,6 +195,7 @@ pub fn carry_on(
     let mut next = first;
     let mut units: u32 = 0;
     let mut going = true;
+    // No for: a turn counts as many units as its inner loop did.
     while going {
         pair = next;
         let k = move_on(board, pair.work, most, memory, io);

@@ -72,7 +72,7 @@ impl Address {
     pub fn is_odd(self) -> bool
         ensures { result ≡ is_odd self }
     {
-        self.lower & 1 == 1
+        facts::bit(self.lower, 0)
     }
 }
 
@@ -102,6 +102,6 @@ impl Set {
     pub fn is_high_first(self) -> bool
         ensures { result ≡ order_of self }
     {
-        (self.b.upper >> 3) & 1 == 0
+        !facts::bit(self.b.upper, 3)
     }
 }

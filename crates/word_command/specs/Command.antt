@@ -1,12 +1,12 @@
 -- Document 01, "Registers": commands follow Figure 18 of 001: bits 7-5 give the kind, bit 0 the channel. The upper byte of the
 -- word written is disregarded. Assumes nothing.
-use Rattle.std.specs.Prelude.{ℕ, ◌/◌, ◌%◌, Bool, cond, List, [], ◌∷◌}
+use Rattle.std.specs.Prelude.{ℕ, ◌/◌, ◌%◌, Bool, cond, List, [], ◌∷◌, Option}
 use Rattle.facts.specs.Bits.{bit_at}
-use Rattle.facts.specs.Look.{look}
+use Rattle.facts.specs.Look.{find}
 use Rattle.port.specs.declared.Which.{Which}
 use Rattle.port.specs.declared.Which.TheVariants.{One, Two}
 use Rattle.word_command.specs.declared.Command.{Command}
-use Rattle.word_command.specs.declared.Command.TheVariants.{Reset, Interrupts, SoftwareRequest, Flip, HardwareMask, StartChain, Unknown}
+use Rattle.word_command.specs.declared.Command.TheVariants.{Reset, Interrupts, SoftwareRequest, Flip, HardwareMask, StartChain}
 
 abbrev pub channel_of : ℕ → Which
 channel_of w = cond (bit_at 0 w) Two One
@@ -22,5 +22,5 @@ kinds c set e p =
     ∷ (5, StartChain c)
     ∷ []
 
-unfoldable pub command_of : ℕ → Command
-command_of w = look Unknown (w / 32 % 8) (kinds (channel_of w) (bit_at 1 w) (bit_at 4 w) (bit_at 2 w))
+unfoldable pub command_of : ℕ → Option Command
+command_of w = find (w / 32 % 8) (kinds (channel_of w) (bit_at 1 w) (bit_at 4 w) (bit_at 2 w))

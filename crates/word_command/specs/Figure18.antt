@@ -1,9 +1,8 @@
 -- Figure 18 of 001: the codes of its commands, in its order. A bit that is not decoded (X) is 0 in a code. Assumes nothing.
-use Rattle.std.specs.Prelude.{ℕ, ◌+◌, List, [], ◌∷◌, ◌++◌, map}
+use Rattle.std.specs.Prelude.{ℕ, ◌+◌, List, [], ◌∷◌, ◌++◌, map, Option, None}
 use Rattle.facts.specs.Look.{look}
 use Rattle.word_command.specs.Command.{command_of}
 use Rattle.word_command.specs.declared.Command.{Command}
-use Rattle.word_command.specs.declared.Command.TheVariants.{Unknown}
 
 -- Set Channel 1, Channel 2; Clear Channel 1, Channel 2.
 abbrev pub set_and_clear : ℕ → List ℕ
@@ -23,9 +22,9 @@ codes =
     ++ set_and_clear 0x34
     ++ set_and_clear 0x60)
 
-abbrev pub listed : List (ℕ × Command)
+abbrev pub listed : List (ℕ × Option Command)
 listed = map (λ code. (code, command_of code)) codes
 
 -- The command of a code; a number that is no code of the figure has none.
-unfoldable pub command_at : ℕ → Command
-command_at code = look Unknown code listed
+unfoldable pub command_at : ℕ → Option Command
+command_at code = look None code listed

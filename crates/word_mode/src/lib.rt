@@ -37,18 +37,18 @@ impl Reasons {
 // ---- the mode
 
 // The triple whose lowest bit, TC, is bit k.
-fn triple_at(low: u16, k: u16) -> Reasons
+fn triple_at(low: u16, k: u32) -> Reasons
     requires { k < 14 }
     ensures { result ≡ triple k low }
 {
     Reasons {
-        tc: (low >> k) & 1 == 1,
-        mc: (low >> (k + 1)) & 1 == 1,
-        eop: (low >> (k + 2)) & 1 == 1,
+        tc: facts::bit(low, k),
+        mc: facts::bit(low, k + 1),
+        eop: facts::bit(low, k + 2),
     }
 }
 
-#[derive(Clone, Copy)]
+#[derive(Clone, Copy, Debug, PartialEq, Eq)]
 pub enum RequestMode {
     Single,
     DemandHold,
@@ -74,7 +74,7 @@ impl Mode {
     pub fn is_flipped(self) -> bool
         ensures { result ≡ is_flipped self }
     {
-        (self.low >> 4) & 1 == 1
+        facts::bit(self.low, 4)
     }
 
     #[tactic(auto, using(facts::proofs::Masks::and_3, facts::proofs::Look::look_none), unfolding(facts::specs::Look::look, crate::specs::Mode::request_mode_of))]
@@ -117,34 +117,34 @@ impl Mode {
     pub fn is_masked(self) -> bool
         ensures { result ≡ is_masked self }
     {
-        (self.high >> 3) & 1 == 1
+        facts::bit(self.high, 3)
     }
 
     // The software request.
     pub fn is_requested(self) -> bool
         ensures { result ≡ is_requested self }
     {
-        (self.high >> 4) & 1 == 1
+        facts::bit(self.high, 4)
     }
 
     pub fn with_flip(mut self, set: bool) -> Mode
         ensures { result ≡ with_flip set self }
     {
-        self.low = self.low / 32 * 32 + facts::worth(set, 16) + self.low % 16;
+        self.low = facts::with_bit(self.low, 4, set);
         self
     }
 
     pub fn with_mask(mut self, set: bool) -> Mode
         ensures { result ≡ with_mask set self }
     {
-        self.high = self.high / 16 * 16 + facts::worth(set, 8) + self.high % 8;
+        self.high = facts::with_bit(self.high, 3, set);
         self
     }
 
     pub fn with_request(mut self, set: bool) -> Mode
         ensures { result ≡ with_request set self }
     {
-        self.high = self.high / 32 * 32 + facts::worth(set, 16) + self.high % 16;
+        self.high = facts::with_bit(self.high, 4, set);
         self
     }
 }

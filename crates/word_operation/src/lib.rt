@@ -14,6 +14,7 @@ pub enum Moves {
     Funnel,
 }
 
+// A flag and no Option: `unit/Unit: worked` says what a unit of any mode does, and demand 2 speaks of it.
 #[derive(Clone, Copy)]
 pub struct Operation {
     pub carried: bool,

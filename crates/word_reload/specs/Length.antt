@@ -1,10 +1,8 @@
 -- Document 01, "Chaining": how many words of a chain are still to be fetched, and where a chain can stand. Assumes nothing.
-use Rattle.std.specs.Prelude.{◌≡◌, true, cond, ℕ, ◌-◌, ◌<◌}
+use Rattle.std.specs.Prelude.{◌≡◌, true, cond, ℕ, ◌-◌, ◌<◌, None, Option, Some}
 use Rattle.word_reload.specs.declared.Progress.{Progress}
 use Rattle.word_reload.specs.declared.Stage.{Stage}
 use Rattle.word_reload.specs.declared.Stage.TheVariants.{Reload, Entries}
-use Rattle.word_reload.specs.declared.Next.{Next}
-use Rattle.word_reload.specs.declared.Next.TheVariants.{More, Complete}
 use Rattle.word_reload.specs.Reload.{entry_of, is_pair, words_of}
 
 -- The words of the entries that are left: without the reload word, and without the first word of an entry whose second comes.
@@ -16,9 +14,9 @@ abbrev pub words_from : Stage → ℕ → ℕ
 words_from Reload w = words_of w
 words_from (Entries p) w = words_left p
 
-abbrev pub words_after : Next → ℕ
-words_after (More p) = words_left p
-words_after Complete = 0
+abbrev pub words_after : Option Progress → ℕ
+words_after (Some p) = words_left p
+words_after None = 0
 
 -- Some of the bits 9 to 0 are left, and a second word comes of a two-word entry alone.
 pub record Proper (p : Progress) : Type 0 where
@@ -30,6 +28,6 @@ abbrev pub ProperStage : Stage → Type 0
 ProperStage Reload = Unit {0}
 ProperStage (Entries p) = Proper p
 
-abbrev pub ProperNext : Next → Type 0
-ProperNext (More p) = Proper p
-ProperNext Complete = Unit {0}
+abbrev pub ProperNext : Option Progress → Type 0
+ProperNext (Some p) = Proper p
+ProperNext None = Unit {0}

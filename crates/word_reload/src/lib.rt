@@ -4,7 +4,8 @@
 ghost use Rattle.std.specs.Prelude.{◌≡◌};
 ghost use Rattle.word_reload.specs.Reload.{next_of, entry_of, rest_of, words_of, is_pair};
 
-#[derive(Clone, Copy)]
+// Nothing stays a case: a chain with no entry left, as a host's 72 words may say, still fetches, and loads it by the same arms.
+#[derive(Clone, Copy, Debug, PartialEq, Eq)]
 pub enum Entry {
     CurrentA,
     CurrentB,
@@ -19,26 +20,20 @@ pub enum Entry {
     Nothing,
 }
 
-// What is left of a chain's table, whether the second word of its next entry comes, and a new chain upper that waits for its lower.
-#[derive(Clone, Copy)]
+// What is left of a chain's table, whether the second word of its next entry comes, and a new chain upper that waits for its lower: a word of the
+// host's state each (the C interface), whatever the others hold.
+#[derive(Clone, Copy, Debug, PartialEq, Eq)]
 pub struct Progress {
     pub left: u16,
     pub second: bool,
     pub upper: u16,
 }
 
-// The word of a chain that is fetched next.
-#[derive(Clone, Copy)]
+// The word of a chain that is fetched next: two kinds, so no Option, whose None would not say that the reload word comes.
+#[derive(Clone, Copy, Debug, PartialEq, Eq)]
 pub enum Stage {
     Reload,
     Entries(Progress),
-}
-
-// What follows a fetched word: more words, or the chain is complete.
-#[derive(Clone, Copy)]
-pub enum Next {
-    More(Progress),
-    Complete,
 }
 
 // The place of the next entry, 0 for that of bit 9 to 9 for that of bit 0; 10 where none is left.
@@ -90,18 +85,15 @@ impl Entry {
     pub fn has_two(self) -> bool
         ensures { result ≡ is_pair self }
     {
-        match self {
-            Entry::CurrentA => true,
-            Entry::CurrentB => true,
-            Entry::CurrentCount => false,
-            Entry::BaseA => true,
-            Entry::BaseB => true,
-            Entry::BaseCount => false,
-            Entry::PatternAndMask => true,
-            Entry::Vector => false,
-            Entry::Mode => true,
-            Entry::ChainAddress => true,
-            Entry::Nothing => false,
-        }
+        matches!(
+            self,
+            Entry::CurrentA
+                | Entry::CurrentB
+                | Entry::BaseA
+                | Entry::BaseB
+                | Entry::PatternAndMask
+                | Entry::Mode
+                | Entry::ChainAddress
+        )
     }
 }

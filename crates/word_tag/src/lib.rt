@@ -21,14 +21,14 @@ pub fn kept_chain(w: u16) -> u16
 pub fn is_memory(w: u16) -> bool
     ensures { result ≡ is_memory w }
 {
-    (w >> 6) & 1 == 1
+    facts::bit(w, 6)
 }
 
 // Normal or System, for request E8.
 pub fn is_normal(w: u16) -> bool
     ensures { result ≡ is_normal w }
 {
-    (w >> 7) & 1 == 1
+    facts::bit(w, 7)
 }
 
 // The step field: 0 up, 1 down, 2 and 3 hold.

@@ -1,9 +1,10 @@
-use Rattle.std.proofs.Common.{◌-◌, ◌≡◌, ◌≤◌, length, drop}
+use Rattle.std.proofs.Common.{◌-◌, ◌≡◌, ◌≤◌, []}
+use Rattle.arrayvec.specs.ArrayVec.{array_vec_len}
 use Rattle.console_line.specs.Reading.{bytes_from}
 use Rattle.console_line.proofs.bytes_of.Given as goal
 
-abbrev pub invariant-loop-at : goal.invariant-loop-at
-invariant-loop-at l = (l.n ≤ 64) × (l.at ≤ length l.s) × (bytes_from (64 - l.n) l.n (drop l.at l.s) l.bytes ≡ bytes_from 64 0 l.s l.initial.bytes)
+abbrev pub invariant-loop-left : goal.invariant-loop-left
+invariant-loop-left l = (array_vec_len l.bytes ≤ 64) × (bytes_from (64 - array_vec_len l.bytes) l.left l.bytes.items ≡ bytes_from 64 l.fn.s [])
 
-abbrev pub decreases-loop-at : goal.decreases-loop-at
-decreases-loop-at l = 64 - l.n
+abbrev pub decreases-loop-left : goal.decreases-loop-left
+decreases-loop-left l = 64 - array_vec_len l.bytes

@@ -1,5 +1,5 @@
 use Rattle.step.proofs.CodeLaws.{rule_4}
 use Rattle.step.proofs.Controller.enabled_intent.Goals as goal
 
-pub returns-in-Kept : goal.returns-in-Kept
-returns-in-Kept c = rule_4 c.args.self _ _ c.in-NoChain.is c.if-control.false c.in-Kept.is c.keeper.ensures
+pub returns-in-Some-bus : goal.returns-in-Some-bus
+returns-in-Some-bus c = rule_4 c.args.self _ _ c.in-None.is c.if-control.false c.in-Some-bus.is c.keeper.ensures
