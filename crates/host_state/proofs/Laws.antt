@@ -1,29 +1,23 @@
--- Values put in one after the other stand in the place of as many. Assumes nothing.
-use mathlib.Core.Path.{◌≡◌, refl, sym, ap, ◌∙◌}
-use mathlib.Core.List.{List, [], ◌∷◌, ◌++◌}
-use Prim.Native.Nat.{ℕ, zero, suc, ◌+◌, ◌≤◌}
-use native.Mathlib.Nat.{not-suc-le-zero, le_of_suc-le-suc}
+-- Values put in one after the other by a loop: what is left gives what the whole gives. Assumes nothing.
+use mathlib.Core.Path.{◌≡◌, sym, ap, ◌∙◌}
+use mathlib.Core.List.{List}
+use Prim.Native.Nat.{ℕ, suc, ◌+◌, ◌≤◌, ◌<◌}
+use native.Mathlib.Numerals.{add-one}
 use native.Mathlib.Omega.{arith}
-use lib.ListN.{length, set, drop}
-use borrow.Rule.Slice.PartMut.{put_mid}
+use lib.ListN.{length, get_or, set, drop}
+use lib.Seq.{drop-cons}
+use Rattle.facts.proofs.Lists.{drop_none}
 use Rattle.host_state.specs.Store.{put_from}
 
--- what stands before the place stays
-past : (at : ℕ) (vs : List ℕ) (x : ℕ) (w : List ℕ) → put_from (suc at) vs (x ∷ w) ≡ x ∷ put_from at vs w
+pub put_begun : (at : ℕ) (vs w : List ℕ) → put_from (at + 0) vs w ≡ put_from at vs w
+put_begun at vs w = ap (λ (n : ℕ). put_from n vs w) (omega arith)
+
+pub put_on : (at k : ℕ) (vs w : List ℕ) → k < length vs → put_from (at + (k + 1)) (drop (k + 1) vs) (set w (at + k) (get_or vs k 0)) ≡ put_from (at + k) (drop k vs) w
 unfolding put_from
-past at [] x w = refl
-past at (v ∷ vs) x w = past (suc at) vs x (set w at v)
+put_on at k vs w h =
+    let e : at + (k + 1) ≡ suc (at + k) = omega arith in
+    (λ i. put_from (e i) (drop (add-one k i) vs) (set w (at + k) (get_or vs k 0))) ∙ sym (ap (λ (l : List ℕ). put_from (at + k) l w) (drop-cons vs k 0 h))
 
-first : (vs w : List ℕ) → length vs ≤ length w → put_from 0 vs w ≡ vs ++ drop (length vs) w
+pub put_done : (at k : ℕ) (vs w : List ℕ) → length vs ≤ k → put_from (at + k) (drop k vs) w ≡ w
 unfolding put_from
-first [] w h = refl
-first (v ∷ vs) [] h = absurd (not-suc-le-zero h)
-first (v ∷ vs) (x ∷ w) h = past 0 vs v w ∙ ap (λ (l : List ℕ). v ∷ l) (first vs w (le_of_suc-le-suc h))
-
-put_in : (at : ℕ) (vs w : List ℕ) → at + length vs ≤ length w → put_from at vs w ≡ put_mid at (length vs) w vs
-put_in zero vs w h = first vs w (omega arith)
-put_in (suc at) vs [] h = absurd (not-suc-le-zero {n = at + length vs} (omega (arith, h)))
-put_in (suc at) vs (x ∷ w) h = past at vs x w ∙ ap (λ (l : List ℕ). x ∷ l) (put_in at vs w (omega (arith, h)))
-
-pub put_whole : (at k : ℕ) (vs w ys : List ℕ) → k ≡ length vs → at + length vs ≤ length w → ys ≡ vs → put_mid at k w ys ≡ put_from at vs w
-put_whole at k vs w ys e h same = rw (e, same) (sym (put_in at vs w h))
+put_done at k vs w h = rw (drop_none k vs h)

@@ -96,12 +96,16 @@ fn channel_words(c: Channel) -> [u16; 31]
 }
 
 // A channel's words, put in from number `at` on.
-#[tactic(auto, using(crate::proofs::Laws::put_whole))]
 fn put(w: &mut [u16; 72], at: usize, words: &[u16; 31])
     requires { (at ≤ 41) × (length words.now ≡ 31) }
     ensures { w.new ≡ put_from at words.now w.old }
 {
-    w[at..at + 31].copy_from_slice(words);
+    // By index: tried as copy_from_slice, and a single step takes 1550 instructions for 1408.
+    let mut k = 0;
+    while k < 31 {
+        w[at + k] = words[k];
+        k += 1;
+    }
 }
 
 #[tactic(auto, unfolding(crate::specs::Store::put_from, crate::specs::Store::words_of))]
