@@ -75,6 +75,8 @@ fn with_mode(k: Which, m: Mode, u: Controller) -> Done<Result<(), Refusal>>
     take(u.with_channel(k, c))
 }
 
+// Not in line: there a write of master mode, which is in the same function, took 625 instructions for 471, and a refused write 500 for 356.
+#[inline(never)]
 fn carry_out(x: Command, w: Which, u: Controller) -> Done<Result<(), Refusal>>
     ensures { result ≡ carried_out x w u }
 {

@@ -1,5 +1,6 @@
 // The bench: the controller, the two spaces that are lent to it, and the host's calls.
 ghost use Rattle.std.specs.Prelude.{◌≡◌, IfOk, OnOk, replicate};
+ghost use Rattle.std.specs.Borrow.{sem};
 ghost use Rattle.space.specs.Space.{spaces};
 ghost use Rattle.call_pointer.specs.Pointer.{pointed};
 ghost use Rattle.space_board.specs.Board.{board_of};
@@ -9,6 +10,7 @@ ghost use Rattle.call_reset.specs.Reset.{fresh_of};
 ghost use Rattle.call_line.specs.Lines.{lined_at};
 ghost use Rattle.call_acknowledge.specs.Acknowledge.{acknowledge_of};
 ghost use Rattle.console.specs.Calls.{call_of, leaves, advance_of, read_line, why_line};
+ghost use Rattle.console.specs.Lending.{bytes_in, LendsSpace};
 
 use crate::print;
 use console_line::{Advance, LentSpace, RegisterCall, Request};
@@ -170,14 +172,19 @@ impl Bench {
 
     // ---- a line
 
-    fn space(&self, space: LentSpace) -> &Vec<u8> {
+    fn space(&self, space: LentSpace) -> &Vec<u8>
+        ensures { result.now ≡ bytes_in space self.now }
+    {
         match space {
             LentSpace::Memory => &self.memory,
             LentSpace::Io => &self.io,
         }
     }
 
-    fn space_mut(&mut self, space: LentSpace) -> &mut Vec<u8> {
+    fn space_mut(&mut self, space: LentSpace) -> &mut Vec<u8>
+        ensures value { result.now ≡ bytes_in space self.old }
+        ensures* writes_back { sem 𝓛 (LendsSpace space self.entry result) }
+    {
         match space {
             LentSpace::Memory => &mut self.memory,
             LentSpace::Io => &mut self.io,

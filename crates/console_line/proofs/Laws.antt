@@ -1,10 +1,12 @@
 -- Laws of the loop that reads the bytes of a poke. Assumes nothing.
-use Prim.Native.Nat.{ℕ, zero, suc, ◌<◌}
-use mathlib.Core.Path.{◌≡◌}
+use Prim.Native.Nat.{ℕ, zero, suc, ◌+◌, ◌-◌, ◌<◌}
+use mathlib.Core.Path.{◌≡◌, ap, sym, ◌∙◌}
 use mathlib.Core.List.{List, [], ◌∷◌, ◌++◌}
 use borrow.Author.Tests.{eq-eqb, ne_eqb}
 use native.Mathlib.Omega.{arith}
-use lib.ListN.{length}
+use lib.ListN.{length, drop, set, replicate}
+use Rattle.std.proofs.lemmas.List.{drop-set-lt, drop-replicate}
+use Rattle.std.proofs.Common.{drop-drop}
 use Rattle.std.specs.Prelude.{Ok, Err}
 use Rattle.console_line.specs.declared.LineError.{LineError}
 use Rattle.console_line.specs.declared.LineError.TheVariants.{NotUnderstood}
@@ -30,3 +32,12 @@ module _ (s held : List ℕ) where
   pub bytes_on : {b : ℕ} (k : ℕ) → (length s ≡ 0 → ⊥) → byte_at s ≡ Ok b → bytes_from (suc k) s held ≡ bytes_from k (rest_of s) (held ++ b ∷ [])
   unfolding bytes_from
   bytes_on k more e = rw (ne_eqb (length s) 0 more, e)
+
+-- behind the byte that is put in the first free place the others stay 0
+pub still_0 : (n : ℕ) (xs : List ℕ) (b : ℕ) → n < 64 → drop n xs ≡ replicate (64 - n) 0 → drop (n + 1) (set xs n b) ≡ replicate (64 - (n + 1)) 0
+still_0 n xs b h e =
+    drop-set-lt (n + 1) xs n b (omega arith)
+    ∙ sym (drop-drop 1 n xs)
+    ∙ ap (λ ys. drop 1 ys) e
+    ∙ drop-replicate 1 (64 - n) 0
+    ∙ ap (λ k. replicate k 0) (omega arith)

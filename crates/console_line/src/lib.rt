@@ -5,7 +5,9 @@ ghost use Rattle.std.specs.Prelude.{◌≡◌, []};
 ghost use Rattle.console_line.specs.Names.{named, names};
 ghost use Rattle.console_line.specs.Reading.{last_of, word_at, byte_at, address_at, decimal_at, channel_at, pointer_of, set_of, level_at, line_of, step_of, limit_of, within_of, lend_of, space_of, space_at, peek_of, bytes_from, poke_of, ask_of, word_of, read_of};
 
-use arrayvec::ArrayVec;
+mod poke_bytes;
+
+pub use poke_bytes::PokeBytes;
 
 // ---- what the first word of a line names
 
@@ -90,13 +92,13 @@ pub enum Advance {
 }
 
 // What is asked, with the bytes of a poke.
-#[derive(Debug, Drop)]
+#[derive(Clone, Copy, Debug)]
 pub enum Request {
     Lend(LentSpace, u32),
     Make(RegisterCall),
     Advance(Advance),
     Why(u8),
-    Poke(LentSpace, u32, ArrayVec<u8, 64>),
+    Poke(LentSpace, u32, PokeBytes),
     Peek(LentSpace, u32, u32),
     State,
     Help,
@@ -272,10 +274,10 @@ fn lend(space: LentSpace, s: &[u8]) -> Result<Request, LineError>
 
 // The words of a text, each a byte.
 #[tactic(auto, using(crate::proofs::Laws::bytes_none, crate::proofs::Laws::bytes_full, crate::proofs::Laws::bytes_bad, crate::proofs::Laws::bytes_on))]
-fn bytes_of(s: &[u8]) -> Result<ArrayVec<u8, 64>, LineError>
+fn bytes_of(s: &[u8]) -> Result<PokeBytes, LineError>
     ensures { result ≡ bytes_from 64 s.now [] }
 {
-    let mut bytes = ArrayVec::new();
+    let mut bytes = PokeBytes::new();
     let mut left = s;
     while !left.is_empty() {
         if bytes.is_full() {

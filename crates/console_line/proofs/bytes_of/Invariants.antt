@@ -1,10 +1,9 @@
-use Rattle.std.proofs.Common.{◌-◌, ◌≡◌, ◌≤◌, []}
-use Rattle.arrayvec.specs.ArrayVec.{array_vec_len}
+use Rattle.std.proofs.Common.{◌-◌, ◌≡◌, ◌≤◌, [], length}
 use Rattle.console_line.specs.Reading.{bytes_from}
 use Rattle.console_line.proofs.bytes_of.Given as goal
 
 abbrev pub invariant-loop-left : goal.invariant-loop-left
-invariant-loop-left l = (array_vec_len l.bytes ≤ 64) × (bytes_from (64 - array_vec_len l.bytes) l.left l.bytes.items ≡ bytes_from 64 l.fn.s [])
+invariant-loop-left l = (length l.bytes.items ≤ 64) × (bytes_from (64 - length l.bytes.items) l.left l.bytes.items ≡ bytes_from 64 l.fn.s [])
 
 abbrev pub decreases-loop-left : goal.decreases-loop-left
-decreases-loop-left l = 64 - array_vec_len l.bytes
+decreases-loop-left l = 64 - length l.bytes.items
