@@ -1,5 +1,5 @@
 // The bytes of a poke.
-ghost use Rattle.std.specs.Prelude.{◌≡◌, ◌+◌, ◌==◌, ◌<◌, [], ◌∷◌, ◌++◌, length};
+ghost use Rattle.std.specs.Prelude.{◌≡◌, ◌+◌, ◌==◌, ◌<◌, ◌≤◌, [], ◌∷◌, ◌++◌, length};
 
 use std::marker::Model;
 
@@ -41,7 +41,8 @@ impl PokeBytes {
     }
 
     pub fn is_full(&self) -> bool
-        ensures { result ≡ (length self.now.items == 64) }
+        ensures value { result ≡ (length self.now.items == 64) }
+        ensures fits { length self.now.items ≤ 64 }
     {
         self.len == 64
     }
@@ -62,7 +63,8 @@ impl PokeBytes {
     }
 
     pub fn as_slice(&self) -> &[u8]
-        ensures { result.now ≡ self.now.items }
+        ensures items { result.now ≡ self.now.items }
+        ensures fits { length result.now ≤ 64 }
     {
         &self.bytes[..self.len]
     }

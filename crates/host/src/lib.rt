@@ -85,7 +85,7 @@ pub fn einflyga_read(state: &[u16; 72]) -> u32
     ensures { result ≡ read_number (read_of (state_of state.now)) }
 {
     let entry = *state;
-    host_answer::number(call_read::read(host_state::load(entry)))
+    host_answer::read_number(call_read::read(host_state::load(entry)))
 }
 
 #[tactic(auto, unfolding(crate::specs::Calls::lined_left))]

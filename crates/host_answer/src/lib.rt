@@ -3,7 +3,7 @@
 
 ghost use Rattle.std.specs.Prelude.{◌≡◌, ℕ};
 ghost use Rattle.standstill.specs.Answers.{cause_number};
-ghost use Rattle.host_answer.specs.Numbers.{unit_half, fetch_half, word_kind, step_number, run_number, packed, number_of, acknowledged_told, cause_told};
+ghost use Rattle.host_answer.specs.Numbers.{unit_half, fetch_half, word_kind, step_number, run_number, packed, number_of, read_number, acknowledged_told, cause_told};
 
 use call_acknowledge::Acknowledgement;
 use port::Which;
@@ -148,4 +148,11 @@ pub fn number<A: Told>(answer: Result<A, Refusal>) -> u32
         Err(r) => u8::from(r) as u32,
         Ok(a) => a.told(),
     }
+}
+
+// A read's, under its own name: of a refused one the refusal is told, and no register.
+pub fn read_number(answer: Result<u16, Refusal>) -> u32
+    ensures { result ≡ read_number answer }
+{
+    number(answer)
 }
