@@ -3,7 +3,7 @@ ghost use Rattle.std.specs.Prelude.{◌≡◌, ◌+◌, ◌==◌, ◌<◌, ◌�
 
 use std::marker::Model;
 
-// At most 64, which lie in the value itself. A request is copied, which an ArrayVec is not.
+// At most 64. A request is copied, which an ArrayVec is not; the value is a list, as an ArrayVec's is.
 #[derive(Clone, Copy, Debug)]
 pub struct PokeBytes {
     bytes: [u8; 64],

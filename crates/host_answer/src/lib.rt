@@ -150,7 +150,7 @@ pub fn number<A: Told>(answer: Result<A, Refusal>) -> u32
     }
 }
 
-// A read's, under its own name: of a refused one the refusal is told, and no register.
+// Of a read, under its own name: no contract of `number` cites what is told of this one call.
 pub fn read_number(answer: Result<u16, Refusal>) -> u32
     ensures { result ≡ read_number answer }
 {
